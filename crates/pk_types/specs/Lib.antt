@@ -1,0 +1,6 @@
+pub mod ActionId
+pub mod Decimals
+pub mod Glob
+pub mod Roomy
+pub mod Text
+pub mod Values

@@ -1,0 +1,31 @@
+//! Texts, action ids, subjects, identities and implicit values, and the lists that hold them.
+//!
+//! Every crate of the authority speaks in these types. Contracts see a text as its bytes, an
+//! action id as the bytes of its text, and a list as the list of its items.
+#![tactic(auto)]
+
+mod action_id;
+mod list;
+mod reserved;
+#[cfg(test)]
+mod tests;
+mod text;
+mod values;
+
+pub use action_id::{ActionId, IdFault};
+pub use list::{List, NoMemory};
+pub use reserved::Reserved;
+pub use text::{Text, TextFault};
+pub use values::{Category, Identity, Implicit, Pair, Subject};
+
+/// A list of texts.
+pub type TextList = List<Text>;
+
+/// A list of bytes.
+pub type ByteList = List<u8>;
+
+/// A list of keys with their values.
+pub type PairList = List<Pair>;
+
+/// A list of identities.
+pub type IdentityList = List<Identity>;
