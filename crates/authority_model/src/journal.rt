@@ -1,0 +1,33 @@
+// The journal: each event with its outputs.
+use crate::{Event, Loaded, LoadedList, OutputList};
+use pk_types::List;
+
+/// One event with its outputs.
+#[derive(Drop)]
+pub struct Entry {
+    /// The number of the caller whose event it is.
+    pub caller: u32,
+    /// The greatest moment handed in so far, in seconds, at most 2^62.
+    pub moment: u64,
+    /// The random word of a challenge that the entry opens.
+    pub salt: u128,
+    pub event: Event,
+    pub outputs: OutputList,
+}
+
+pub type EntryList = List<Entry>;
+
+/// An entry with the load that it names.
+#[derive(Drop)]
+pub struct Item {
+    pub entry: Entry,
+    /// The load of an entry whose event is Load, and nothing for any other.
+    pub loaded: Option<Loaded>,
+}
+
+/// All entries, oldest first, and the loads that they name: the j-th Load entry has the j-th load.
+#[derive(Drop)]
+pub struct History {
+    pub entries: EntryList,
+    pub loads: LoadedList,
+}

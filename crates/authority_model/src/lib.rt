@@ -1,0 +1,28 @@
+//! The public types of the authority, and the definitions that every contract above cites.
+//!
+//! The types say what a policy, a world, an event and a history are. `specs/` says, over them, who is
+//! connected, which agent is in force, which challenge is pending, which grant is live, what is
+//! decided, and what each event is answered. Nothing here decides anything itself.
+#![tactic(auto)]
+
+mod event;
+mod journal;
+mod key;
+mod load;
+mod message;
+mod pending;
+mod policy;
+mod verdict;
+mod world;
+
+pub use event::{Call, Event};
+pub use journal::{Entry, EntryList, History, Item};
+pub use key::{Key, KeyRef};
+pub use load::{FileFault, FileFaultList, Loaded, LoadedList};
+pub use message::{Answer, ErrorCause, Message, Output, OutputList};
+pub use pending::{Agent, Pending};
+pub use policy::{Action, ActionList, Localized, LocalizedList, Policy, RuleEntry, RuleList};
+pub use verdict::{Cookie, Decision, GrantRow, GrantRowList, Reason, RuleSource, Verdict};
+pub use world::{
+    GidList, Group, GroupList, Process, ProcessList, Session, SessionList, User, UserList, World,
+};
