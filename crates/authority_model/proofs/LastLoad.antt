@@ -1,8 +1,9 @@
 -- The load in force is the last one of the history's loads.
-use Rattle.std.proofs.Common.{◌≡◌, ℕ, ◌+◌, Bool, true, false, List, [], ◌∷◌, ◌++◌, refl, ap, sym, ◌∙◌, Some, None, length, arith}
-use Rattle.std.specs.Prelude.{reverse}
+use Rattle.std.proofs.Common.{◌≡◌, ℕ, ◌+◌, ◌<◌, zero, suc, Bool, true, false, List, [], ◌∷◌, ◌++◌, refl, ap, sym, ◌∙◌, Some, None, length, arith}
+use Rattle.std.specs.Prelude.{reverse, slice_get, ◌-◌}
 use Rattle.std.specs.Option.{option_map_or}
 use Rattle.std.proofs.lemmas.List.{reverse-append}
+use Rattle.std.proofs.lemmas.Option.{slice_get_within, slice_get-get_or}
 use Rattle.authority_model.specs.declared.journal.Entry.{Entry}
 use Rattle.authority_model.specs.declared.journal.History.{History}
 use Rattle.authority_model.specs.declared.journal.Item.{Item}
@@ -55,3 +56,23 @@ last_from (e ∷ es) ls d n = go (is_load e.event) ls n (λ ls d n. last_from es
 -- where each load of a history is named, the last one is in force
 pub loaded_last : (h : History) → loads (items_of h) ≡ length h.loads → loaded_of (items_of h) ≡ last_or empty_loaded h.loads
 loaded_last h n = from_empty (items_of h) ∙ last_from h.entries h.loads empty_loaded (sym (loads-reverse (paired h.entries h.loads)) ∙ n)
+
+last_or_some : (d : Loaded) (ls : List Loaded) (k : ℕ) (x : Loaded) → length ls ≡ k + 1 → slice_get ls k ≡ Some x → last_or d ls ≡ x
+last_or_some d [] k x n e = absurd (omega arith)
+last_or_some d (l ∷ []) zero x n e = cc
+last_or_some d (l ∷ (m ∷ ms)) zero x n e = absurd (omega arith)
+last_or_some d (l ∷ ls) (suc k) x n e = last_or_some l ls k x (omega arith) e
+
+-- what stands at the last place is the last one
+pub last_or-last : (d : Loaded) (ls : List Loaded) (x : Loaded) → slice_get ls (length ls - 1) ≡ Some x → last_or d ls ≡ x
+last_or-last d ls x e =
+    let within : length ls - 1 < length ls = slice_get_within ls (length ls - 1) x e in
+    last_or_some d ls (length ls - 1) x (omega arith) e
+
+-- and where nothing stands there, there is none
+pub last_or-none : (d : Loaded) (ls : List Loaded) → slice_get ls (length ls - 1) ≡ None → last_or d ls ≡ d
+last_or-none d [] e = refl
+last_or-none d (l ∷ ls) e =
+    let within : length (l ∷ ls) - 1 < length (l ∷ ls) = omega arith in
+    let found = slice_get-get_or (l ∷ ls) (length (l ∷ ls) - 1) l within in
+    absurd (cc)
