@@ -4,3 +4,6 @@ pub mod ChallengeExamples
 pub mod GrantExamples
 pub mod ReturnExamples
 pub mod CostExamples
+pub mod Cases
+pub mod Pairing
+pub mod LastLoad

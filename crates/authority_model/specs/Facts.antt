@@ -1,11 +1,13 @@
 -- What is known of a subject by its row.
-use Rattle.std.specs.Prelude.{ℕ, ◌==◌, ◌&&◌, if◌then◌else◌, Option, Some, None, option_map, option_and_then, bytes_eq, find}
+use Rattle.std.specs.Prelude.{ℕ, ◌==◌, ◌&&◌, if◌then◌else◌, Option, Some, None, option_map, option_and_then, option_copied, bytes_eq, find}
 use Rattle.pk_types.specs.declared.values.Category.{Category}
+use Rattle.authority_model.specs.declared.facts.Facts.{Facts as BorrowedFacts}
 use Rattle.authority_model.specs.declared.key.Key.{Key}
 use Rattle.authority_model.specs.declared.world.World.{World}
 use Rattle.authority_model.specs.declared.world.Session.{Session as SessionRow}
 use Rattle.authority_model.specs.declared.world.Process.{Process as ProcessRow}
 use Rattle.authority_model.specs.Words.{Bytes}
+use Rattle.authority_model.specs.Keys.{key_seen}
 use Rattle.authority_model.specs.Worlds.{session_row}
 
 -- What is known of a subject: its user, the category of its session, its key, and the id of its session.
@@ -46,3 +48,7 @@ facts_of_session s = record {
 abbrev pub facts_of_key : World → Key → Option Facts
 facts_of_key world (Key.Process pid start uid) = option_map (facts_of_process world) (find (λ p. (p.pid == pid) && (p.start == start) && (p.uid == uid)) world.processes)
 facts_of_key world (Key.Session id uid) = option_map facts_of_session (find (λ s. bytes_eq s.id id && (s.uid == uid)) world.sessions)
+
+-- the facts that facts with borrowed texts stand for
+abbrev pub facts_seen : BorrowedFacts → Facts
+facts_seen f = record { uid = f.uid; category = f.category; key = key_seen f.key; session = option_copied f.session }

@@ -6,6 +6,7 @@
 #![tactic(auto)]
 
 mod event;
+mod facts;
 mod journal;
 mod key;
 mod load;
@@ -16,6 +17,7 @@ mod verdict;
 mod world;
 
 pub use event::{Call, Event};
+pub use facts::Facts;
 pub use journal::{Entry, EntryList, History, Item};
 pub use key::{Key, KeyRef};
 pub use load::{FileFault, FileFaultList, Loaded, LoadedList};

@@ -1,6 +1,9 @@
 // What one load gives.
+ghost use Rattle.std.specs.Prelude.{◌≡◌};
+
 use crate::{Policy, World};
 use pk_types::{List, Text};
+use std::alloc::Global;
 
 /// A policy file, or something in one, that was skipped.
 #[derive(Drop)]
@@ -26,3 +29,27 @@ pub struct Loaded {
 }
 
 pub type LoadedList = List<Loaded>;
+
+impl Loaded {
+    ghost use Rattle.authority_model.specs.Items.{empty_loaded};
+
+    /// Load 0: the empty policy and world. It takes no memory.
+    pub fn empty(alloc: Global) -> Loaded
+        ensures empty { result ≡ empty_loaded }
+    {
+        Loaded {
+            policy: Policy {
+                actions: List::new(alloc),
+                entries: List::new(alloc),
+                admins: List::new(alloc),
+            },
+            world: World {
+                users: List::new(alloc),
+                groups: List::new(alloc),
+                sessions: List::new(alloc),
+                processes: List::new(alloc),
+            },
+            faults: List::new(alloc),
+        }
+    }
+}
