@@ -1,6 +1,6 @@
 // Any reader and any writer of std, as standard input and standard output, with a count of the
 // faults. They are the trusted edge: nothing is told of their content.
-ghost use Rattle.std.specs.Prelude.{◌≤◌, ◌^◌};
+ghost use Rattle.std.specs.Prelude.{◌≡◌, ◌≤◌, ◌^◌};
 
 use crate::{Failed, Sink, Source};
 use std::io::{Read, Write};
@@ -27,6 +27,15 @@ impl<R: Read> ReadSource<R> {
             ended: false,
             faults: 0,
         }
+    }
+}
+
+impl<R: Read + Drop + Send> ReadSource<R> {
+    /// How many calls failed.
+    pub fn faults(&self) -> u64
+        ensures faults { result ≡ ⟦<ReadSource<R> as Source>⟧.faults self.now }
+    {
+        self.faults
     }
 }
 
@@ -70,6 +79,15 @@ impl<W: Write> WriteSink<W> {
     /// A sink that writes to this writer. It takes no memory.
     pub fn new(inner: W) -> Self {
         WriteSink { inner, faults: 0 }
+    }
+}
+
+impl<W: Write + Drop + Send> WriteSink<W> {
+    /// How many calls failed.
+    pub fn faults(&self) -> u64
+        ensures faults { result ≡ ⟦<WriteSink<W> as Sink>⟧.faults self.now }
+    {
+        self.faults
     }
 }
 

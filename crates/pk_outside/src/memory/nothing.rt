@@ -174,6 +174,13 @@ impl ListStation {
     pub fn new() -> Self {
         ListStation { faults: 0 }
     }
+
+    /// How many faults it counted.
+    pub fn faults(&self) -> u64
+        ensures faults { result ≡ ⟦<ListStation as Station>⟧.faults self.now }
+    {
+        self.faults
+    }
 }
 
 impl Station for ListStation {
