@@ -5,6 +5,7 @@
 //! decided, and what each event is answered. Nothing here decides anything itself.
 #![tactic(auto)]
 
+mod copies;
 mod event;
 mod facts;
 mod journal;

@@ -1,5 +1,5 @@
 -- Numbers in decimal digits, without a sign and without a zero in front.
-use Rattle.std.specs.Prelude.{ℕ, ◌==◌, Bool, true, false, not, ◌&&◌, if◌then◌else◌, List, [], ◌∷◌, Option, Some, None, nat_le, nat_lt, ◌+◌, ◌-◌, ◌*◌, option_and_then}
+use Rattle.std.specs.Prelude.{ℕ, ◌==◌, Bool, true, false, not, ◌&&◌, if◌then◌else◌, List, [], ◌∷◌, Option, Some, None, nat_le, ◌+◌, ◌-◌, ◌*◌, option_and_then}
 
 -- whether nothing stands there
 abbrev pub is_empty : List ℕ → Bool

@@ -22,6 +22,10 @@ bad_byte_fault None = None
 abbrev pub text_fault_of : List ℕ → Option TextFault
 text_fault_of bytes = if nat_lt 65535 (length bytes) then Some (text_fault.TooLong (length bytes)) else bad_byte_fault (text_bad bytes)
 
+-- the bytes are a text
+abbrev pub IsText : List ℕ → Type 0
+IsText bytes = text_fault_of bytes ≡ None
+
 -- the fault is the one that is due, and want of memory is free
 abbrev pub TextFaultIs : TextFault → Option TextFault → Type 0
 TextFaultIs text_fault.NoMemory due = Unit {0}
@@ -29,5 +33,5 @@ TextFaultIs fault due = due ≡ Some fault
 
 -- the bytes are this text, or they are no text for this cause
 abbrev pub TextIs : List ℕ → Result (List ℕ) TextFault → Type 0
-TextIs bytes (Ok text) = (text ≡ bytes) × (text_fault_of bytes ≡ None)
+TextIs bytes (Ok text) = (text ≡ bytes) × IsText bytes
 TextIs bytes (Err fault) = TextFaultIs fault (text_fault_of bytes)

@@ -5,6 +5,7 @@
 #![tactic(auto)]
 
 mod action_id;
+mod copies;
 mod list;
 mod reserved;
 #[cfg(test)]
@@ -13,6 +14,7 @@ mod text;
 mod values;
 
 pub use action_id::{ActionId, IdFault};
+pub use copies::TryCopy;
 pub use list::{List, NoMemory};
 pub use reserved::Reserved;
 pub use text::{Text, TextFault};

@@ -2,6 +2,7 @@
 ghost use Rattle.std.specs.Prelude.{◌≡◌, ◌<◌, ◌∷◌, [], ◌++◌, ◌==◌, length, IfErr, IfOk, IfSome, IfNone, OnOk, OnErr, remove, slice_get, slice_index_or, slice_set, take};
 ghost use Rattle.std.specs.Option.{option_copied};
 
+use crate::copies::TryCopy;
 use std::alloc::{AllocError, AllocFailed, Global};
 use std::marker::Model;
 
@@ -143,6 +144,19 @@ impl<T: Drop> List<T> {
         ensures rest { self.new ≡ remove self.old i }
     {
         self.items.remove(i)
+    }
+}
+
+impl<T: TryCopy> List<T> {
+    /// A copy of the list and of each item.
+    pub fn try_copy(&self) -> Result<List<T>, NoMemory>
+        ensures copy { IfOk result (λ copy. copy ≡ self.now) }
+    {
+        let mut copies = Vec::new(*self.items.allocator());
+        for item in self.items.as_slice() {
+            copies.push(item.try_copy()?)?;
+        }
+        Ok(List { items: copies })
     }
 }
 

@@ -95,6 +95,9 @@ fn lists_grow_and_shrink(rt: HostRuntime) -> Result<(), Fail> {
     assert!(rt; list.pop() == Some(9));
     list.truncate(0);
     assert!(rt; list.pop().is_none());
+    list.try_push(4)?;
+    list.try_push(6)?;
+    assert!(rt; list.try_copy()?.as_slice() == list.as_slice());
     let bytes = List::try_from_slice(rt.alloc(), b"abc")?;
     assert!(rt; List::from_vec(bytes.into_vec()).as_slice() == b"abc".as_slice());
     Ok(())

@@ -1,7 +1,7 @@
 // A text: UTF-8 without byte 0, at most 65,535 bytes. Contracts see its bytes.
 ghost use Rattle.std.specs.Prelude.{◌≡◌, ◌==◌, ◌≤◌, [], length, position, bytes_eq, IfOk};
 ghost use Rattle.std.specs.Str.Lossy.{utf8_valid_len};
-ghost use Rattle.pk_types.specs.Text.{TextIs, text_bad};
+ghost use Rattle.pk_types.specs.Text.{IsText, TextIs, text_bad};
 
 use crate::list::NoMemory;
 use std::alloc::Global;
@@ -27,6 +27,10 @@ impl Model for Text {
     ghost Value = { List ℕ };
 
     ghost view = { λ t. t.bytes.items };
+
+    ghost use Rattle.pk_types.specs.Text.{IsText};
+
+    ghost invariant = { λ t. IsText t.bytes.items };
 }
 
 /// Why bytes are no text.
@@ -105,6 +109,7 @@ impl Text {
     /// The bytes of the text.
     pub fn bytes(&self) -> &[u8]
         ensures bytes { result.now ≡ self.now }
+        ensures text { IsText self.now }
     {
         self.bytes.as_slice()
     }

@@ -1,0 +1,11 @@
+pub mod Causes
+pub mod Streams
+pub mod Links
+pub mod Doors
+pub mod Readings
+pub mod Stations
+pub mod Trees
+pub mod Refusals
+pub mod Memory
+pub mod Held
+pub mod HeldLink

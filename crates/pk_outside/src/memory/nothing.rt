@@ -1,0 +1,220 @@
+// Trees, doors, links, clocks, random words and stations in memory that hold nothing yet.
+ghost use Rattle.std.specs.Prelude.{◌≡◌, ℕ};
+ghost use Rattle.pk_outside.specs.Causes.{RoseWhere};
+ghost use Rattle.pk_outside.specs.Held.{IsUnused, source_calls, sink_calls};
+ghost use Rattle.pk_outside.specs.Stations.{has_fault};
+
+use crate::{
+    Accepted, ByteSink, ByteSource, Clock, Door, Ends, FileBytes, Link, Names, Salt, Station,
+    StationRefused, Tree, TreeRefused,
+};
+use pk_types::Text;
+
+/// A tree in memory, without a file and without a directory.
+#[derive(Drop)]
+pub struct ListTree {}
+
+impl ListTree {
+    /// It takes no memory.
+    pub fn new() -> Self {
+        ListTree {}
+    }
+}
+
+impl Tree for ListTree {
+    ghost use Rattle.std.specs.Prelude.{[], Some};
+
+    ghost told = { λ _. Some (record { files = []; directories = [] }) };
+
+    ghost faults = { λ _. 0 };
+
+    fn names(&mut self, _path: &Text) -> Result<Names, TreeRefused> {
+        Ok(Names::Absent)
+    }
+
+    fn read(&mut self, _path: &Text, _limit: u64) -> Result<FileBytes, TreeRefused> {
+        Ok(FileBytes::Absent)
+    }
+}
+
+/// A tree in memory that never fails, without a file and without a directory.
+#[derive(Drop)]
+pub struct SureTree {}
+
+impl SureTree {
+    /// It takes no memory.
+    pub fn new() -> Self {
+        SureTree {}
+    }
+}
+
+impl Tree for SureTree {
+    ghost use Rattle.std.specs.Prelude.{[], Some};
+
+    ghost told = { λ _. Some (record { files = []; directories = [] }) };
+
+    ghost faults = { λ _. 0 };
+
+    fn names(&mut self, _path: &Text) -> Result<Names, TreeRefused> {
+        Ok(Names::Absent)
+    }
+
+    fn read(&mut self, _path: &Text, _limit: u64) -> Result<FileBytes, TreeRefused> {
+        Ok(FileBytes::Absent)
+    }
+}
+
+/// A link between two ends in memory.
+#[derive(Drop)]
+pub struct ByteLink {
+    input: ByteSource,
+    output: ByteSink,
+    ghost unused: { IsUnused input output },
+}
+
+impl ByteLink {
+    ghost use Rattle.pk_outside.specs.Held.{source_bytes};
+    ghost use Rattle.pk_outside.specs.HeldLink.{link_bytes};
+
+    /// A link of which nothing was read or written. It takes no memory.
+    pub fn new(input: ByteSource, output: ByteSink) -> Self
+        requires unused { IsUnused input output }
+        ensures bytes { link_bytes result ≡ source_bytes input }
+    {
+        ByteLink { input, output }
+    }
+}
+
+impl Link for ByteLink {
+    ghost use Rattle.std.specs.Prelude.{[], Some};
+
+    type In = ByteSource;
+
+    type Out = ByteSink;
+
+    ghost origin = { λ l. Some (record { path = []; bytes = l.input.bytes.items }) };
+
+    fn split(self) -> Ends<Self> {
+        let ByteLink { input, output } = self;
+        Ends { input, output }
+    }
+}
+
+/// A door in memory that has no link to give.
+#[derive(Drop)]
+pub struct ListDoor {
+    uid: u32,
+}
+
+impl Door for ListDoor {
+    ghost use Rattle.std.specs.Prelude.{None};
+
+    type Link = ByteLink;
+
+    ghost told = { λ _. None };
+
+    ghost owner = { λ d. d.uid };
+
+    ghost faults = { λ _. 0 };
+
+    fn accept(&mut self) -> Accepted<ByteLink> {
+        Accepted::Closed
+    }
+
+    fn back(&mut self, _ends: Ends<ByteLink>)
+        ensures owner { self.new.uid ≡ self.old.uid }
+    {}
+
+    fn uid(&self) -> u32 {
+        self.uid
+    }
+}
+
+/// A clock in memory without a reading, which always gives 0.
+#[derive(Drop)]
+pub struct ListClock {}
+
+impl Clock for ListClock {
+    ghost use Rattle.std.specs.Prelude.{[], None, Some};
+
+    ghost left = { λ _. Some [] };
+
+    ghost gave = { λ _. None };
+
+    fn now(&mut self) -> u64 {
+        0
+    }
+}
+
+/// Random words in memory, of which there are none: it always gives 0.
+#[derive(Drop)]
+pub struct ListSalt {}
+
+impl Salt for ListSalt {
+    ghost use Rattle.std.specs.Prelude.{[], None, Some};
+
+    ghost left = { λ _. Some [] };
+
+    ghost gave = { λ _. None };
+
+    fn word(&mut self) -> u128 {
+        0
+    }
+}
+
+/// A station in memory whose doors have no link, and which has none to dial: it counts a fault at
+/// each call of `dial`.
+#[derive(Drop)]
+pub struct ListStation {
+    faults: u64,
+}
+
+impl ListStation {
+    /// It takes no memory.
+    pub fn new() -> Self {
+        ListStation { faults: 0 }
+    }
+}
+
+impl Station for ListStation {
+    ghost use Rattle.std.specs.Prelude.{None};
+
+    type Door = ListDoor;
+
+    type Link = ByteLink;
+
+    type Clock = ListClock;
+
+    type Salt = ListSalt;
+
+    ghost told = { λ _. None };
+
+    ghost faults = { λ s. s.faults };
+
+    fn door(&mut self, uid: u32, _path: &Text, _slot: u32) -> Result<ListDoor, StationRefused> {
+        Ok(ListDoor { uid })
+    }
+
+    fn dial(&mut self, _path: &Text) -> Result<ByteLink, StationRefused> {
+        self.faults = self.faults.saturating_add(1);
+        Err(StationRefused::Failed)
+    }
+
+    fn clock(&mut self) -> ListClock {
+        ListClock {}
+    }
+
+    fn salt(&mut self) -> ListSalt {
+        ListSalt {}
+    }
+
+    fn shut(&mut self, _door: ListDoor, _clock: ListClock, _salt: ListSalt) {}
+
+    fn hang(&mut self, ends: Ends<ByteLink>)
+        ensures count { RoseWhere (has_fault (source_calls ends.input).faults (sink_calls ends.output).faults) self.old.faults self.new.faults }
+    {
+        if ends.input.faults() > 0 || ends.output.faults() > 0 {
+            self.faults = self.faults.saturating_add(1);
+        }
+    }
+}

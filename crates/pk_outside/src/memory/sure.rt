@@ -1,0 +1,86 @@
+// A source and a sink in memory that never fail.
+ghost use Rattle.std.specs.Prelude.{◌≡◌, ◌^◌, ◌<◌, ◌≤◌, length, vec_len};
+
+use crate::memory::bytes::copy_front;
+use crate::{Failed, Sink, Source};
+
+/// A source of bytes in memory that never fails: its count of faults is always 0.
+#[derive(Drop)]
+pub struct SureSource {
+    bytes: Vec<u8>,
+    at: usize,
+    piece: usize,
+    ghost within: { at ≤ length bytes.items },
+    ghost piece_some: { 0 < piece },
+    ghost size: { length bytes.items ≤ 2 ^ 62 },
+}
+
+impl SureSource {
+    ghost use Rattle.pk_outside.specs.Held.{sure_left};
+
+    /// A source of these bytes, at most `piece` of them in a call.
+    pub fn new(bytes: Vec<u8>, piece: usize) -> Self
+        requires some { 0 < piece }
+        requires size { vec_len bytes ≤ 2 ^ 62 }
+        ensures left { sure_left result ≡ bytes.items }
+    {
+        SureSource {
+            bytes,
+            at: 0,
+            piece,
+        }
+    }
+}
+
+impl Source for SureSource {
+    ghost use Rattle.std.specs.Prelude.{◌-◌, [], Some, length, drop, nat_eq};
+    ghost use Rattle.std.proofs.Common.{rules};
+    ghost use Rattle.pk_outside.specs.Memory.{used_up};
+
+    ghost left = { λ s. Some (drop s.at s.bytes.items) };
+
+    ghost origin = { λ s. Some (record { path = []; bytes = s.bytes.items }) };
+
+    ghost faults = { λ _. 0 };
+
+    ghost budget = { λ s. length s.bytes.items - s.at };
+
+    ghost ended = { λ s. nat_eq s.at (length s.bytes.items) };
+
+    ghost budget_bound = { λ s. Prim.search rules };
+
+    ghost ended_is_used_up = { λ s at_end. used_up s.at s.bytes.items at_end };
+
+    fn read(&mut self, buffer: &mut [u8]) -> Result<usize, Failed> {
+        let (_, rest) = self.bytes.split_at(self.at);
+        let n = buffer.len().min(self.piece).min(rest.len());
+        let (front, _) = rest.split_at(n);
+        copy_front(buffer, front);
+        self.at += n;
+        Ok(n)
+    }
+}
+
+/// A sink that takes all bytes and keeps none: its count of faults is always 0, and it tells
+/// nothing.
+#[derive(Drop)]
+pub struct SureSink {}
+
+impl SureSink {
+    /// It takes no memory.
+    pub fn new() -> Self {
+        SureSink {}
+    }
+}
+
+impl Sink for SureSink {
+    ghost use Rattle.std.specs.Prelude.{None};
+
+    ghost held = { λ _. None };
+
+    ghost faults = { λ _. 0 };
+
+    fn write(&mut self, bytes: &[u8]) -> Result<usize, Failed> {
+        Ok(bytes.len())
+    }
+}

@@ -1,0 +1,77 @@
+// What makes the objects of the outside, and takes them back.
+ghost use Rattle.std.specs.Prelude.{◌≡◌, ◌<◌, ℕ, Option, IfOk, OnErr, nat_lt};
+ghost use Rattle.pk_outside.specs.Causes.{RoseWhere};
+ghost use Rattle.pk_outside.specs.Links.{EndsTell};
+ghost use Rattle.pk_outside.specs.Refusals.{StationCause};
+ghost use Rattle.pk_outside.specs.Stations.{StationTold, MakesDoor, Dials, MakesClock, MakesSalt, Shuts, Hangs, has_fault};
+
+use crate::{Clock, Door, Ends, Link, Salt};
+use pk_types::Text;
+
+/// Why a station made no door or no link.
+#[derive(Clone, Copy, Debug, PartialEq, Eq)]
+pub enum StationRefused {
+    /// The station failed, and counted it.
+    Failed,
+    NoMemory,
+}
+
+/// Makes doors, links, clocks and random words, and takes them back.
+pub trait Station: Drop + Send {
+    type Door: Door;
+
+    type Link: Link;
+
+    type Clock: Clock;
+
+    type Salt: Salt;
+
+    /// What it will give and what came back, where they are told.
+    ghost told: { Self → Option StationTold };
+
+    /// How often the station has failed.
+    ghost faults: { Self → ℕ };
+
+    /// A door for the links of this user at this path; `slot` numbers the doors of one path.
+    ///
+    /// # Errors
+    /// 1 `Failed` where the station failed and counted a fault; 2 `NoMemory`. It then tells what it told.
+    fn door(&mut self, uid: u32, path: &Text, slot: u32) -> Result<Self::Door, StationRefused>
+        ensures door { IfOk result (λ door. MakesDoor uid path.now slot (told self.old) (told self.new) (Self.Door.told door)) }
+        ensures owner { IfOk result (λ door. Self.Door.owner door ≡ uid) }
+        ensures count { IfOk result (λ door. Self.Door.faults door ≡ 0) }
+        ensures err { OnErr result (told self.new ≡ told self.old) }
+        ensures cause { StationCause (faults self.old) (faults self.new) result };
+
+    /// A link to whoever listens at this path.
+    ///
+    /// # Errors
+    /// 1 `Failed` where the station failed and counted a fault; 2 `NoMemory`. It then tells what it told.
+    fn dial(&mut self, path: &Text) -> Result<Self::Link, StationRefused>
+        ensures link { IfOk result (λ link. Dials path.now (told self.old) (told self.new) (Self.Link.origin link)) }
+        ensures err { OnErr result (told self.new ≡ told self.old) }
+        ensures cause { StationCause (faults self.old) (faults self.new) result };
+
+    /// A clock.
+    fn clock(&mut self) -> Self::Clock
+        ensures clock { MakesClock (told self.old) (told self.new) (Self.Clock.left result) (Self.Clock.gave result) }
+        ensures count { faults self.new ≡ faults self.old };
+
+    /// A giver of random words.
+    fn salt(&mut self) -> Self::Salt
+        ensures salt { MakesSalt (told self.old) (told self.new) (Self.Salt.left result) (Self.Salt.gave result) }
+        ensures count { faults self.new ≡ faults self.old };
+
+    /// Takes a door back with its clock and its salt, and counts a fault exactly where the door
+    /// counted one. It takes no memory.
+    fn shut(&mut self, door: Self::Door, clock: Self::Clock, salt: Self::Salt)
+        ensures shut { Shuts (told self.old) (told self.new) (Self.Door.told door) (Self.Clock.gave clock) (Self.Salt.gave salt) }
+        ensures count { RoseWhere (nat_lt 0 (Self.Door.faults door)) (faults self.old) (faults self.new) };
+
+    /// Takes a dialled link back, and counts a fault exactly where one of its two directions counted
+    /// one. It takes no memory.
+    fn hang(&mut self, ends: Ends<Self::Link>)
+        ensures hung { Hangs (told self.old) (told self.new) (EndsTell (Self.Link.In.origin ends.input)
+            (Self.Link.In.left ends.input) (Self.Link.Out.held ends.output) (Self.Link.In.faults ends.input) (Self.Link.Out.faults ends.output)) }
+        ensures count { RoseWhere (has_fault (Self.Link.In.faults ends.input) (Self.Link.Out.faults ends.output)) (faults self.old) (faults self.new) };
+}

@@ -1,0 +1,85 @@
+// Bytes that come and bytes that go.
+ghost use Rattle.std.specs.Prelude.{◌≡◌, ◌+◌, ◌^◌, ◌<◌, ◌≤◌, List, ℕ, Option, None, Bool, IsTrue, length, IfOk, MatchResult, OnOk, OnErr};
+ghost use Rattle.std.specs.Io.{ReadsAtMost};
+ghost use Rattle.pk_outside.specs.Causes.{HasCause};
+ghost use Rattle.pk_outside.specs.Links.{Origin};
+ghost use Rattle.pk_outside.specs.Streams.{ReadGave, WriteGot, Got, GotFront, IsUsedUp};
+
+/// The object failed, and counted it.
+#[derive(Clone, Copy, Debug, PartialEq, Eq)]
+pub struct Failed;
+
+/// Where bytes come from.
+pub trait Source: Drop + Send {
+    /// The bytes that reads will give from here on, where they are told.
+    ghost left: { Self → Option (List ℕ) };
+
+    /// Where the source is from, and all of its bytes: told by the reading end of a link that is told.
+    ghost origin: { Self → Option Origin } = { λ _. None };
+
+    /// How often the source has failed.
+    ghost faults: { Self → ℕ };
+
+    /// At most so many bytes it can still give.
+    ghost budget: { Self → ℕ };
+
+    /// The last read has met the end.
+    ghost ended: { Self → Bool };
+
+    /// Reads the next bytes into the front of the buffer, at least one of them unless the source is
+    /// at its end. The answer is their number.
+    ///
+    /// # Errors
+    /// `Failed` where the source failed and counted a fault; nothing was read.
+    fn read(&mut self, buffer: &mut [u8]) -> Result<usize, Failed>
+        requires { 0 < length buffer.old }
+        ensures bound { ReadsAtMost result buffer.new }
+        ensures bytes { ReadGave (left self.old) (left self.new) result buffer.new }
+        ensures end { IfOk result (λ n. n ≡ 0 → IsTrue (ended self.new)) }
+        ensures same { origin self.new ≡ origin self.old }
+        ensures cause { HasCause (faults self.old) (faults self.new) result }
+        ensures fewer { MatchResult result (λ n. budget self.new + n ≤ budget self.old) (λ _. budget self.new ≤ budget self.old) };
+
+    /// No source can give more than this.
+    ghost budget_bound: { (source : Self) → budget source ≤ 2 ^ 62 };
+
+    /// At its end a source has nothing left.
+    ghost ended_is_used_up: { (source : Self) → IsTrue (ended source) → IsUsedUp (left source) };
+}
+
+/// Where bytes go.
+pub trait Sink: Drop + Send {
+    /// The bytes that it got, where they are told.
+    ghost held: { Self → Option (List ℕ) };
+
+    /// How often the sink has failed.
+    ghost faults: { Self → ℕ };
+
+    /// Writes the first of the bytes, at least one of them. The answer is their number.
+    ///
+    /// # Errors
+    /// `Failed` where the sink failed or takes nothing, and counted a fault; nothing was written.
+    fn write(&mut self, bytes: &[u8]) -> Result<usize, Failed>
+        requires { 0 < length bytes.now }
+        ensures bound { IfOk result (λ n. (0 < n) × (n ≤ length bytes.now)) }
+        ensures bytes { WriteGot (held self.old) (held self.new) result bytes.now }
+        ensures cause { HasCause (faults self.old) (faults self.new) result };
+}
+
+/// Writes all of the bytes.
+///
+/// # Errors
+/// `Failed` where the sink failed and counted a fault; a front of the bytes was written.
+pub fn write_all<O: Sink>(output: &mut O, bytes: &[u8]) -> Result<(), Failed>
+    ensures ok { OnOk result (Got (O.held output.old) (O.held output.new) bytes.now) }
+    ensures err { OnErr result (GotFront (O.held output.old) (O.held output.new) bytes.now) }
+    ensures cause { HasCause (O.faults output.old) (O.faults output.new) result }
+{
+    let mut rest = bytes;
+    while !rest.is_empty() {
+        let n = output.write(rest)?;
+        let (_, after) = rest.split_at(n);
+        rest = after;
+    }
+    Ok(())
+}

@@ -1,0 +1,60 @@
+// A tree of files.
+ghost use Rattle.std.specs.Prelude.{◌≡◌, ℕ, Option};
+ghost use Rattle.pk_outside.specs.Refusals.{TreeCause};
+ghost use Rattle.pk_outside.specs.Trees.{TreeTold, ListsNames, ReadsFile};
+
+use pk_types::{ByteList, Text, TextList};
+
+/// What stands in a directory.
+#[derive(Drop)]
+pub enum Names {
+    /// The names that are text, and how many are not.
+    Listed { names: TextList, unnamed: u32 },
+    /// No directory stands at that path.
+    Absent,
+}
+
+/// What a file holds.
+#[derive(Drop)]
+pub enum FileBytes {
+    Bytes(ByteList),
+    /// No file stands at that path.
+    Absent,
+    /// The file is longer than the limit.
+    TooLong,
+}
+
+/// Why a tree gave no answer.
+#[derive(Clone, Copy, Debug, PartialEq, Eq)]
+pub enum TreeRefused {
+    /// The tree failed, and counted it.
+    Failed,
+    NoMemory,
+}
+
+/// Files in directories, each at a path.
+pub trait Tree: Drop + Send {
+    /// The files and directories, where they are told.
+    ghost told: { Self → Option TreeTold };
+
+    /// How often the tree has failed.
+    ghost faults: { Self → ℕ };
+
+    /// The names in a directory.
+    ///
+    /// # Errors
+    /// 1 `Failed` where the tree failed and counted a fault; 2 `NoMemory`.
+    fn names(&mut self, path: &Text) -> Result<Names, TreeRefused>
+        ensures names { ListsNames (told self.old) path.now result }
+        ensures same { told self.new ≡ told self.old }
+        ensures cause { TreeCause (faults self.old) (faults self.new) result };
+
+    /// The bytes of a file of at most `limit` bytes.
+    ///
+    /// # Errors
+    /// 1 `Failed` where the tree failed and counted a fault; 2 `NoMemory`.
+    fn read(&mut self, path: &Text, limit: u64) -> Result<FileBytes, TreeRefused>
+        ensures file { ReadsFile (told self.old) path.now limit result }
+        ensures same { told self.new ≡ told self.old }
+        ensures cause { TreeCause (faults self.old) (faults self.new) result };
+}

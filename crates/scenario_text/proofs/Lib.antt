@@ -1,0 +1,4 @@
+pub mod TooLarge
+pub mod Digits
+pub mod Loads
+pub mod Orders

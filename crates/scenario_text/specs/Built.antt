@@ -1,0 +1,10 @@
+-- What the steps of the lines that are built use.
+use Rattle.std.specs.Prelude.{⊤}
+use Rattle.authority_model.specs.Built.{IsBuiltEvent}
+use Rattle.scenario_text.specs.declared.step.Step.{Step}
+use Rattle.scenario_text.specs.declared.step.Step.TheVariants as step
+
+-- the event of a line is one that the authority takes
+abbrev pub IsBuiltStep : Step → Type 0
+IsBuiltStep (step.Act caller event) = IsBuiltEvent event
+IsBuiltStep other = ⊤

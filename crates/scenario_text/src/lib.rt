@@ -1,0 +1,20 @@
+//! The text of scenarios: the lines that a scenario says, and the lines that answer it.
+//!
+//! A scenario is read line by line, and each line says one [`Step`]. Each output of the authority
+//! is one answer line.
+#![tactic(auto)]
+
+mod answer;
+mod escape;
+mod fault;
+mod first_word;
+mod lines;
+mod number;
+mod step;
+mod verdict;
+mod words;
+
+pub use answer::answer_text;
+pub use fault::{LineFault, LineKind};
+pub use lines::{MAX_LINE, read_line};
+pub use step::Step;
