@@ -1,0 +1,209 @@
+// The authority: its journal, and the calls that add to it.
+ghost use Rattle.std.specs.Prelude.{◌≡◌, ◌≤◌, ◌^◌, ◌++◌, ◌∷◌, [], max, length, slice_get, IfOk, IfErr, OnOk, OnErr};
+ghost use Rattle.std.specs.Option.{option_copied, option_map};
+ghost use Rattle.authority_model.specs.declared.journal.History.{History as TheHistory};
+ghost use Rattle.authority_model.specs.Built.{IsBuiltEvent, IsBuiltLoad};
+ghost use Rattle.authority_model.specs.Items.{items_of, policy_of};
+ghost use Rattle.authority_model.specs.Legal.{IsLegal, last_moment};
+ghost use Rattle.authority_model.specs.Given.{event_given, load_given, next, Grows};
+ghost use Rattle.authority_model.specs.Deciding.{decision as decision_on, told_decision};
+ghost use Rattle.authority_model.specs.Grants.{kept};
+
+use crate::answer::outputs;
+use crate::decide::{decision, default_value};
+use authority_model::{Decision, Entry, Event, History, Loaded};
+use journal_search::{action, facts, loaded};
+use pk_types::{List, NoMemory, Subject, Text};
+use std::alloc::Global;
+use std::marker::Model;
+
+/// How much a journal may hold. It has no effect yet.
+#[derive(Clone, Copy, Debug, PartialEq, Eq)]
+pub struct Limits {
+    /// The number of entries, at most 1,048,576.
+    pub entries: u64,
+    /// The counted bytes, at most 536,870,912.
+    pub bytes: u64,
+}
+
+/// Why an event was refused. It comes back, and nothing has changed.
+#[derive(Drop)]
+pub enum StepRefused {
+    /// The journal has reached its limit of entries or of bytes. It does not come yet.
+    JournalFull {
+        entries: u64,
+        bytes: u64,
+        event: Event,
+    },
+    NoMemory {
+        event: Event,
+    },
+}
+
+/// Why a load was refused. It comes back, and nothing has changed.
+#[derive(Drop)]
+pub enum LoadStepRefused {
+    /// The journal has reached its limit of entries or of bytes. It does not come yet.
+    JournalFull {
+        entries: u64,
+        bytes: u64,
+        loaded: Loaded,
+    },
+    NoMemory {
+        loaded: Loaded,
+    },
+}
+
+/// The authority on one thread. It is seen as its journal, which is legal.
+#[derive(Drop)]
+pub struct Authority {
+    alloc: Global,
+    limits: Limits,
+    history: History,
+    /// The greatest moment handed in so far.
+    moment: u64,
+    /// Load 0, which is in force until the first load.
+    empty: Loaded,
+}
+
+impl Model for Authority {
+    ghost use Rattle.authority_model.specs.declared.journal.History.{History};
+    ghost use Rattle.authority_core.specs.Sound.{IsSound};
+
+    ghost Value = { History };
+
+    ghost view = { λ a. a.history };
+
+    ghost invariant = { λ a. IsSound a.history a.moment a.empty };
+}
+
+impl Authority {
+    /// An authority whose journal is empty.
+    pub fn start(alloc: Global, limits: Limits) -> Result<Authority, NoMemory>
+        requires entries { limits.entries ≤ 1048576 }
+        requires bytes { limits.bytes ≤ 536870912 }
+        ensures empty { IfOk result (λ authority. authority ≡ record { entries = []; loads = [] }) }
+    {
+        Ok(Authority {
+            alloc,
+            limits,
+            history: History {
+                entries: List::new(alloc),
+                loads: List::new(alloc),
+            },
+            moment: 0,
+            empty: Loaded::empty(alloc),
+        })
+    }
+
+    /// The journal. It is legal: each event was answered as the definitions say.
+    pub fn history(&self) -> &History
+        ensures same { result.now ≡ self.now }
+        ensures legal { IsLegal self.now }
+    {
+        &self.history
+    }
+
+    /// The entry at a place counted from 0, and `None` exactly past the end.
+    pub fn entry(&self, place: u64) -> Option<&Entry>
+        ensures entry { option_copied result ≡ slice_get self.now.entries place }
+    {
+        self.history.entries.get(place as usize)
+    }
+
+    /// Adds the entry of an event, and answers its place, counted from 0.
+    ///
+    /// The entry has the greatest moment handed in so far. Its outputs are the answers to the event
+    /// after the journal so far.
+    pub fn step(
+        &mut self,
+        caller: u32,
+        moment: u64,
+        salt: u128,
+        event: Event,
+    ) -> Result<u64, StepRefused>
+        requires built { IsBuiltEvent event }
+        requires moment { moment ≤ 2 ^ 62 }
+        ensures place { IfOk result (λ place. place ≡ length self.old.entries) }
+        ensures grows { OnOk result (Grows self.old self.new (event_given caller moment salt event)) }
+        ensures entry { OnOk result (self.new.entries ≡ self.old.entries ++ (next (items_of self.old) (event_given caller moment salt event)).entry ∷ []) }
+        ensures loads { OnOk result (self.new.loads ≡ self.old.loads) }
+
+        ensures err { OnErr result (self.new ≡ self.old) }
+        ensures back { IfErr result (λ refused. refused ≡ StepRefused.NoMemory event) }
+    {
+        let in_force = loaded(&self.history, &self.empty);
+        let outputs = match outputs(self.alloc, &self.history, in_force, caller, &event) {
+            Ok(outputs) => outputs,
+            Err(NoMemory) => return Err(StepRefused::NoMemory { event }),
+        };
+        let place = self.history.entries.len();
+        let moment = self.moment.max(moment);
+        let entry = Entry {
+            caller,
+            moment,
+            salt,
+            event,
+            outputs,
+        };
+        match self.history.entries.push_or_return(entry) {
+            Ok(()) => {
+                self.moment = moment;
+                Ok(place as u64)
+            }
+            Err(entry) => Err(StepRefused::NoMemory { event: entry.event }),
+        }
+    }
+
+    /// Adds the entry of the next load, and answers its place, counted from 0.
+    ///
+    /// The entry has the greatest moment handed in so far and the random word 0.
+    pub fn load(&mut self, caller: u32, moment: u64, loaded: Loaded) -> Result<u64, LoadStepRefused>
+        requires built { IsBuiltLoad self.old loaded }
+        requires moment { moment ≤ 2 ^ 62 }
+        ensures place { IfOk result (λ place. place ≡ length self.old.entries) }
+        ensures grows { OnOk result (Grows self.old self.new (load_given caller moment loaded)) }
+        ensures entry { OnOk result (self.new.entries ≡ self.old.entries ++ (next (items_of self.old) (load_given caller moment loaded)).entry ∷ []) }
+        ensures loads { OnOk result (self.new.loads ≡ self.old.loads ++ loaded ∷ []) }
+
+        ensures err { OnErr result (self.new ≡ self.old) }
+        ensures back { IfErr result (λ refused. refused ≡ LoadStepRefused.NoMemory loaded) }
+    {
+        let place = self.history.entries.len();
+        let moment = self.moment.max(moment);
+        let entry = Entry {
+            caller,
+            moment,
+            salt: 0,
+            event: Event::Load { load: 1 },
+            outputs: List::new(self.alloc),
+        };
+        match self.history.entries.push_or_return(entry) {
+            Ok(()) => {}
+            Err(_) => return Err(LoadStepRefused::NoMemory { loaded }),
+        }
+        match self.history.loads.push_or_return(loaded) {
+            Ok(()) => {
+                self.moment = moment;
+                Ok(place as u64)
+            }
+            Err(loaded) => {
+                self.history.entries.truncate(place);
+                Err(LoadStepRefused::NoMemory { loaded })
+            }
+        }
+    }
+
+    /// What a check of a subject would be told without a challenge, at this moment or the journal's
+    /// greatest, whichever is greater. `None` exactly where the action is unknown or nothing is known
+    /// of the subject.
+    pub fn decide(&self, moment: u64, subject: &Subject, id: &Text) -> Option<Decision>
+        ensures decision { result ≡ option_map (told_decision (policy_of (items_of self.now))) (decision_on (items_of self.now) (kept (items_of self.now)) (max (last_moment (items_of self.now)) moment) subject.now id.now) }
+    {
+        let in_force = loaded(&self.history, &self.empty);
+        let action = action(&in_force.policy, id)?;
+        let facts = facts(&in_force.world, None, subject)?;
+        let value = default_value(action, facts.category);
+        Some(decision(facts.uid, facts.category, value))
+    }
+}
