@@ -1,0 +1,5 @@
+pub mod Prefixes
+pub mod Places
+pub mod Moves
+pub mod Keeps
+pub mod Growth
