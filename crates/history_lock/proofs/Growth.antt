@@ -1,8 +1,8 @@
 -- How a pass's history grows, and what that says of its caller's own entries.
-use Rattle.std.proofs.Common.{◌≡◌, ◌≢◌, ℕ, zero, suc, ◌+◌, ◌<◌, ◌≤◌, ◌⊎◌, Bool, true, false, cond, List, [], ◌∷◌, ◌++◌, length, Some, None, Option, refl, sym, ap, ◌∙◌, subst, ⊎_elim, arith, length-append}
+use Rattle.std.proofs.Common.{◌≡◌, ◌≢◌, ℕ, zero, suc, ◌+◌, ◌<◌, ◌≤◌, ◌⊎◌, Bool, true, false, cond, List, [], ◌∷◌, ◌++◌, length, Some, None, Option, refl, sym, ap, ◌∙◌, subst, ⊎_elim, arith, length-append, append_assoc}
 use Rattle.std.specs.Prelude.{◌==◌, All, filter}
 use Rattle.std.proofs.lemmas.List.{append-nil}
-use Rattle.std.proofs.lemmas.List.Elements.{filter-append, All-nil, All-cons, All-head, All-tail}
+use Rattle.std.proofs.lemmas.List.Elements.{filter-append, All-append, All-nil, All-cons, All-head, All-tail}
 use Rattle.std.proofs.lemmas.Bool.Decides.{nat_tests}
 use mathlib.Core.List.{IsPrefix}
 use mathlib.Core.Option.{some}
@@ -20,7 +20,7 @@ module _ {I : Type 0} (caller_of : I → ℕ) where
   none_by n (x ∷ xs) none = All-cons (λ e. caller_of e ≢ n) x xs (none 0 x refl) (none_by n xs (λ k e at. none (suc k) e at))
 
   -- what stands in the rest stands in the whole, so much further on
-  at_behind : (h rest : List I) (k : ℕ) (e : I) → get_elem? rest k ≡ some e → get_elem? (h ++ rest) (length h + k) ≡ some e
+  pub at_behind : (h rest : List I) (k : ℕ) (e : I) → get_elem? rest k ≡ some e → get_elem? (h ++ rest) (length h + k) ≡ some e
   at_behind [] rest k e at = subst (λ (j : ℕ). get_elem? rest j ≡ some e) (let z : k ≡ 0 + k = omega arith in z) at
   at_behind (x ∷ h) rest k e at = subst (λ (j : ℕ). get_elem? (x ∷ (h ++ rest)) j ≡ some e) (let z : suc (length h + k) ≡ length (x ∷ h) + k = omega arith in z) (at_behind h rest k e at)
 
@@ -126,3 +126,11 @@ module _ {I : Type 0} (caller_of : I → ℕ) where
     learned_told p p' w H H' f same here is idle pre own number made legal =
         learned_of p w (number ∙ ap (λ (q : Known I). q.number) same) made
         (others_told p p' H H' w.history f same here is idle pre own) legal
+
+  -- others' entries came, and then others'
+  pub others_trans : (n : ℕ) (h more most : List I) → GrownByOthers caller_of n h more → GrownByOthers caller_of n more most → GrownByOthers caller_of n h most
+  others_trans n h more most a b = record {
+    between = a.between ++ b.between;
+    grown = b.grown ∙ ap (λ (l : List I). l ++ b.between) a.grown ∙ append_assoc h a.between b.between;
+    others = All-append (λ e. caller_of e ≢ n) a.between b.between a.others b.others;
+  }

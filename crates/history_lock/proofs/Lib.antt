@@ -3,3 +3,4 @@ pub mod Places
 pub mod Moves
 pub mod Keeps
 pub mod Growth
+pub mod PlainSentences

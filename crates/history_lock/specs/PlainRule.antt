@@ -7,14 +7,15 @@ use Rattle.history_lock.specs.declared.view.Kind.TheVariants.{Book, Caller, Note
 use Rattle.history_lock.specs.declared.view.View.{View}
 use Rattle.history_lock.specs.Entries.{entries_by}
 
-module _ {I : Type 0} (caller_of : I → ℕ) (Legal : List I → Type 0) where
-  -- the entries of the caller in a history are those that it had before, or those and then the last of the note that names it
+module _ {I : Type 0} (caller_of : I → ℕ) where
+  -- The entries of the caller in a history are those that it had before, or those and then the last of the note that names it
   pub data OwnEntries (x : View I) : Type 0 where
     -- nothing of its own came with the note
     had : entries_by caller_of x.number x.history ≡ entries_by caller_of x.number x.old_history → OwnEntries x
     -- the note names the caller, and its last entry is the caller's
     told : (e : I) (others : List I) → x.note_name ≡ Some x.number → x.note_history ≡ others ++ e ∷ [] → entries_by caller_of x.number x.history ≡ entries_by caller_of x.number x.old_history ++ e ∷ [] → OwnEntries x
 
+module _ {I : Type 0} (caller_of : I → ℕ) (Legal : List I → Type 0) where
   -- The sentences, where the book's view is v, at the seat b. No sentence speaks of a view that is spent.
   pub record PlainAt (words : List ℕ) (views : List (View I)) (b : ℕ) (v : View I) : Type 0 where
     -- One view is the book's.
@@ -38,7 +39,7 @@ module _ {I : Type 0} (caller_of : I → ℕ) (Legal : List I → Type 0) where
     pub seen : (i : ℕ) (x : View I) (j : ℕ) (y : View I) → get_elem? views i ≡ some x → get_elem? views j ≡ some y → x.kind ≡ Caller → y.kind ≢ Spent → i ≢ j → (k : ℕ) (e : I) → get_elem? y.history k ≡ some e → caller_of e ≡ x.number
         → (k < length x.history) ⊎ (((y.kind ≡ Book) ⊎ (y.kind ≡ Note)) × (y.in_flight ≡ Some x.number) × (suc k ≡ length y.history))
     -- The entries of a caller in its history are those that it had, and perhaps the last of the note that names it.
-    pub own : (i : ℕ) (x : View I) → get_elem? views i ≡ some x → x.kind ≡ Caller → OwnEntries x
+    pub own : (i : ℕ) (x : View I) → get_elem? views i ≡ some x → x.kind ≡ Caller → OwnEntries caller_of x
     -- The caller's view of a receipt's number, if there is one, has a history at least as long as the receipt's.
     pub receipt : (i : ℕ) (x : View I) (j : ℕ) (y : View I) → get_elem? views i ≡ some x → get_elem? views j ≡ some y → x.kind ≡ Caller → y.kind ≡ Receipt → y.number ≡ x.number → length y.history ≤ length x.history
 

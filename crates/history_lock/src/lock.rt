@@ -10,8 +10,7 @@ use crate::machine::{EndCause, Machine};
 use crate::pass::{Pass, TableName};
 use crate::refused::{AdmitRefused, CallRefused};
 use crate::steps;
-use crate::view::{Counted, View};
-use atomic_table::{Seat, Table};
+use crate::view::{LockSeat, LockTable};
 use pk_types::NoMemory;
 use std::alloc::Global;
 use std::marker::{Model, PhantomData};
@@ -20,8 +19,8 @@ use std::sync::{Condvar, Mutex, Wait};
 /// A table that was just opened, for one lock. Contracts see its name.
 #[derive(Drop)]
 pub struct Opened<M: Machine> {
-    table: Table<(), View<M::Item>, (), Counted<M>, Global>,
-    book: Seat<(), View<M::Item>>,
+    table: LockTable<M>,
+    book: LockSeat<M>,
 }
 
 impl<M: Machine> Model for Opened<M> {
@@ -51,7 +50,7 @@ pub fn open_table<M: Machine>(alloc: Global) -> Result<Opened<M>, NoMemory> {
 /// No clause speaks of waiting: a call that waits for the lock, or for an operation to be ready, returns only if other callers do their part.
 #[derive(Drop)]
 pub struct HistoryLock<M: Machine, T: TableName> {
-    table: Table<(), View<M::Item>, (), Counted<M>, Global>,
+    table: LockTable<M>,
     locked: Mutex<Locked<M, T>>,
     turn: Condvar,
     ghost named: { table.shared.table_id ≡ T.table },

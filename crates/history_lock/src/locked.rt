@@ -4,6 +4,7 @@ ghost use mathlib.Core.List.{IsPrefix};
 ghost use mathlib.Core.Option.{some};
 ghost use lib.ListN.{get_elem?};
 ghost use Rattle.history_lock.specs.declared.view.Kind.TheVariants.{Book};
+ghost use Rattle.history_lock.specs.Names.{IsNamed};
 ghost use Rattle.history_lock.specs.Kinds.{longer_of};
 ghost use Rattle.history_lock.specs.Calls.{Learned, Answered, Refused, IsEndedBy, Admitted, NoneAdmitted};
 
@@ -11,9 +12,7 @@ use crate::machine::{EndCause, Machine};
 use crate::pass::{Pass, TableName};
 use crate::refused::{AdmitRefused, CallRefused};
 use crate::steps;
-use crate::view::{Counted, View};
-use atomic_table::{Seat, Table};
-use std::alloc::Global;
+use crate::view::{LockSeat, LockTable};
 use std::marker::{Brand, Model, PhantomData};
 
 /// How many passes a lock has.
@@ -25,7 +24,7 @@ pub struct Locked<M: Machine, T: TableName> {
     pub(crate) machine: M,
     pub(crate) made: u32,
     pub(crate) cause: Option<EndCause>,
-    pub(crate) book: Seat<(), View<M::Item>>,
+    pub(crate) book: LockSeat<M>,
     pub(crate) of: PhantomData<T>,
 }
 
@@ -46,18 +45,24 @@ impl<M: Machine, T: TableName> Model for Locked<M, T> {
 
 /// The book settles a receipt of the pass and reads, so it learns that the pass's history begins its own.
 pub fn settle_receipt<M: Machine, T: TableName>(
-    table: &Table<(), View<M::Item>, (), Counted<M>, Global>,
-    book: &mut Seat<(), View<M::Item>>,
+    table: &LockTable<M>,
+    book: &mut LockSeat<M>,
     pass: &mut Pass<M, T>,
 )
-    requires table { (table.now.shared.table_id ≡ T.table) × (table.now.shared.table_id.words ≡ 1) × (book.old.table_id ≡ T.table) }
+    requires table { IsNamed table.now.shared.table_id T.table }
+    requires seat { book.old.table_id ≡ T.table }
     requires book { book.old.me.0.kind ≡ Book }
     ensures seat { (book.new.table_id ≡ T.table) × (book.new.me.0.kind ≡ Book) }
-    ensures book { (book.new.me.0.history ≡ book.old.me.0.history) × (book.new.me.0.made ≡ book.old.me.0.made) }
+    ensures book_history { book.new.me.0.history ≡ book.old.me.0.history }
+    ensures book_made { book.new.me.0.made ≡ book.old.me.0.made }
     ensures idle { book.old.me.0.in_flight ≡ None → book.new.me.0.in_flight ≡ None }
     ensures lands { book.old.me.0.in_flight ≡ Some pass.old.number → pass.old.history ≡ book.old.me.0.history → book.new.me.0.in_flight ≡ None }
     ensures pass { pass.new ≡ pass.old }
-    ensures known { IsPrefix pass.old.history book.old.me.0.history × (pass.old.made ≤ book.old.me.0.made) × (book.old.me.0.made ≤ 1048576) × (pass.old.number < pass.old.made) × M.legal book.old.me.0.history }
+    ensures begins { IsPrefix pass.old.history book.old.me.0.history }
+    ensures made { pass.old.made ≤ book.old.me.0.made }
+    ensures top { book.old.me.0.made ≤ 1048576 }
+    ensures number { pass.old.number < pass.old.made }
+    ensures legal { M.legal book.old.me.0.history }
     ensures callers { (k : ℕ) (e : M.Item) → get_elem? book.old.me.0.history k ≡ some e → M.caller_of e < book.old.me.0.made }
 {
     let token = steps::receipt(table, &mut pass.seat);
@@ -67,15 +72,19 @@ pub fn settle_receipt<M: Machine, T: TableName>(
 
 /// The pass takes a note of the book and reads, so it learns the book's history, and which entries of it are its own.
 pub fn take_note_of_book<M: Machine, T: TableName>(
-    table: &Table<(), View<M::Item>, (), Counted<M>, Global>,
-    book: &mut Seat<(), View<M::Item>>,
+    table: &LockTable<M>,
+    book: &mut LockSeat<M>,
     pass: &mut Pass<M, T>,
 )
-    requires table { (table.now.shared.table_id ≡ T.table) × (table.now.shared.table_id.words ≡ 1) × (book.old.table_id ≡ T.table) }
-    requires book { IsPrefix pass.old.history book.old.me.0.history × (pass.old.made ≤ book.old.me.0.made) }
+    requires table { IsNamed table.now.shared.table_id T.table }
+    requires seat { book.old.table_id ≡ T.table }
+    requires begins { IsPrefix pass.old.history book.old.me.0.history }
+    requires counted { pass.old.made ≤ book.old.me.0.made }
     requires names { (book.old.me.0.in_flight ≡ None) ⊎ (book.old.me.0.in_flight ≡ Some pass.old.number) }
     ensures book { (book.new.table_id ≡ T.table) × (book.new.me ≡ book.old.me) }
-    ensures pass { (pass.new.history ≡ book.old.me.0.history) × (pass.new.made ≡ book.old.me.0.made) × (pass.new.number ≡ pass.old.number) }
+    ensures history { pass.new.history ≡ book.old.me.0.history }
+    ensures made { pass.new.made ≡ book.old.me.0.made }
+    ensures number { pass.new.number ≡ pass.old.number }
     ensures legal { M.legal pass.new.history }
     ensures own { (k : ℕ) (e : M.Item) → get_elem? book.old.me.0.history k ≡ some e → M.caller_of e ≡ pass.old.number → (k < length pass.old.history) ⊎ ((book.old.me.0.in_flight ≡ Some pass.old.number) × (suc k ≡ length book.old.me.0.history)) }
 {
@@ -86,14 +95,16 @@ pub fn take_note_of_book<M: Machine, T: TableName>(
 
 /// One pass takes a note of another and reads, so it learns what the other knows.
 pub fn take_note_of_pass<M: Machine, T: TableName>(
-    table: &Table<(), View<M::Item>, (), Counted<M>, Global>,
+    table: &LockTable<M>,
     to: &mut Pass<M, T>,
     from: &mut Pass<M, T>,
 )
-    requires { (table.now.shared.table_id ≡ T.table) × (table.now.shared.table_id.words ≡ 1) }
+    requires table { IsNamed table.now.shared.table_id T.table }
     ensures from { from.new ≡ from.old }
-    ensures longer { (to.new.history ≡ longer_of to.old.history from.old.history) × (to.new.made ≡ max to.old.made from.old.made) }
-    ensures begins { IsPrefix to.old.history to.new.history × IsPrefix from.old.history to.new.history }
+    ensures longer { to.new.history ≡ longer_of to.old.history from.old.history }
+    ensures made { to.new.made ≡ max to.old.made from.old.made }
+    ensures begins { IsPrefix to.old.history to.new.history }
+    ensures covers { IsPrefix from.old.history to.new.history }
     ensures number { to.new.number ≡ to.old.number }
     ensures legal { M.legal to.new.history }
     ensures own { (k : ℕ) (e : M.Item) → get_elem? to.new.history k ≡ some e → M.caller_of e ≡ to.old.number → k < length to.old.history }
@@ -107,11 +118,11 @@ impl<M: Machine, T: TableName> Locked<M, T> {
     /// Calls the machine for the pass, unless the lock has ended.
     pub fn call(
         &mut self,
-        table: &Table<(), View<M::Item>, (), Counted<M>, Global>,
+        table: &LockTable<M>,
         pass: &mut Pass<M, T>,
         op: M::Op,
     ) -> Result<M::Reply, CallRefused<M::Op, M::Refusal>>
-        requires table { (table.now.shared.table_id ≡ T.table) × (table.now.shared.table_id.words ≡ 1) }
+        requires table { IsNamed table.now.shared.table_id T.table }
         requires turn { IsSome self.old.2 ⊎ (M.legal self.old.0 → M.is_ready pass.old.number op self.old.0) }
         ensures ok { IfOk result (λ reply. Answered M.caller_of M.legal M.is_ready M.gives pass.old op reply pass.new) }
         ensures err { IfErr result (λ r. Refused M.caller_of M.legal M.refuses M.fits pass.old op r pass.new) }
@@ -148,10 +159,10 @@ impl<M: Machine, T: TableName> Locked<M, T> {
     /// Makes a new pass, which knows the whole history. The old pass then knows it too.
     pub fn admit(
         &mut self,
-        table: &Table<(), View<M::Item>, (), Counted<M>, Global>,
+        table: &LockTable<M>,
         pass: &mut Pass<M, T>,
     ) -> Result<Pass<M, T>, AdmitRefused>
-        requires { (table.now.shared.table_id ≡ T.table) × (table.now.shared.table_id.words ≡ 1) }
+        requires { IsNamed table.now.shared.table_id T.table }
         ensures ok { IfOk result (λ new. Admitted M.caller_of M.legal pass.old new pass.new) }
         ensures full { IfErr result (λ r. NoneAdmitted M.caller_of M.legal pass.old r pass.new) }
         ensures made { MatchResult result (λ new. (new.number ≡ self.old.1) × (self.new.1 ≡ self.old.1 + 1)) (λ _. (self.old.1 ≡ 1048576) × (self.new.1 ≡ self.old.1)) }
@@ -177,11 +188,11 @@ impl<M: Machine, T: TableName> Locked<M, T> {
     /// Keeps the cause, unless one is kept already, and answers the kept one.
     pub fn end(
         &mut self,
-        table: &Table<(), View<M::Item>, (), Counted<M>, Global>,
+        table: &LockTable<M>,
         pass: &mut Pass<M, T>,
         cause: EndCause,
     ) -> EndCause
-        requires table { (table.now.shared.table_id ≡ T.table) × (table.now.shared.table_id.words ≡ 1) }
+        requires table { IsNamed table.now.shared.table_id T.table }
         requires fits { M.fits cause pass.old.history pass.old.made }
         ensures fits { M.fits result pass.new.history pass.new.made }
         ensures learned { Learned M.caller_of M.legal pass.old pass.new }

@@ -2,8 +2,7 @@
 ghost use Rattle.std.specs.Prelude.{◌≡◌, ◌<◌, ◌≤◌};
 
 use crate::machine::Machine;
-use crate::view::View;
-use atomic_table::Seat;
+use crate::view::LockSeat;
 use std::marker::{Brand, Model, PhantomData};
 
 /// Which table it is. A program picks the name of each table that it opens once, by a call of a function that is generic in the name.
@@ -24,7 +23,7 @@ impl TableName for Brand {
 #[derive(Drop)]
 pub struct Pass<M: Machine, T: TableName> {
     pub(crate) number: u32,
-    pub(crate) seat: Seat<(), View<M::Item>>,
+    pub(crate) seat: LockSeat<M>,
     pub(crate) of: PhantomData<(M, T)>,
 }
 

@@ -6,8 +6,8 @@ ghost use Rattle.history_lock.specs.Kinds.{counted_up, newcomer, appended, note_
 
 use crate::machine::Machine;
 use crate::plays::{Admits, Appends, Notes, Reads, Receipts, Settles, Takes, Written};
-use crate::view::{Counted, View};
-use atomic_table::{Seat, Table};
+use crate::view::{LockSeat, LockTable};
+use atomic_table::Table;
 use std::alloc::{AllocError, Global};
 
 /// Makes a table of one word, which is 0, and the book's seat at it.
@@ -15,8 +15,8 @@ pub fn open<M: Machine>(
     alloc: Global,
 ) -> Result<
     (
-        Table<(), View<M::Item>, (), Counted<M>, Global>,
-        Seat<(), View<M::Item>>,
+        LockTable<M>,
+        LockSeat<M>,
     ),
     AllocError,
 >
@@ -27,8 +27,8 @@ pub fn open<M: Machine>(
 
 /// A seat reads the word, and learns what the rule says of its view.
 pub fn read<M: Machine>(
-    table: &Table<(), View<M::Item>, (), Counted<M>, Global>,
-    seat: &mut Seat<(), View<M::Item>>,
+    table: &LockTable<M>,
+    seat: &mut LockSeat<M>,
 )
     requires { (seat.old.table_id ≡ table.now.shared.table_id) × (table.now.shared.table_id.words ≡ 1) }
     ensures same { (seat.new.table_id ≡ seat.old.table_id) × (seat.new.me ≡ seat.old.me) }
@@ -39,8 +39,8 @@ pub fn read<M: Machine>(
 
 /// The book adds 1 to the word, for the entry that the machine has beyond the book's history.
 pub fn append<M: Machine, W: Written<M::Item>>(
-    table: &Table<(), View<M::Item>, (), Counted<M>, Global>,
-    book: &mut Seat<(), View<M::Item>>,
+    table: &LockTable<M>,
+    book: &mut LockSeat<M>,
     machine: &M,
 )
     requires table { (book.old.table_id ≡ table.now.shared.table_id) × (table.now.shared.table_id.words ≡ 1) }
@@ -57,9 +57,9 @@ pub fn append<M: Machine, W: Written<M::Item>>(
 
 /// Makes the seat of the next caller.
 pub fn admit<M: Machine>(
-    table: &Table<(), View<M::Item>, (), Counted<M>, Global>,
-    book: &mut Seat<(), View<M::Item>>,
-) -> Seat<(), View<M::Item>>
+    table: &LockTable<M>,
+    book: &mut LockSeat<M>,
+) -> LockSeat<M>
     requires table { (book.old.table_id ≡ table.now.shared.table_id) × (table.now.shared.table_id.words ≡ 1) }
     requires book { (book.old.me.0.kind ≡ Book) × (book.old.me.0.in_flight ≡ None) × (book.old.me.0.made < 1048576) }
     ensures same { (book.new.table_id ≡ book.old.table_id) × (book.new.me ≡ (counted_up book.old.me.0, book.old.me.1)) }
@@ -70,9 +70,9 @@ pub fn admit<M: Machine>(
 
 /// Writes down what the seat knows.
 pub fn note<M: Machine>(
-    table: &Table<(), View<M::Item>, (), Counted<M>, Global>,
-    seat: &mut Seat<(), View<M::Item>>,
-) -> Seat<(), View<M::Item>>
+    table: &LockTable<M>,
+    seat: &mut LockSeat<M>,
+) -> LockSeat<M>
     requires { (seat.old.table_id ≡ table.now.shared.table_id) × (table.now.shared.table_id.words ≡ 1) }
     ensures same { (seat.new.table_id ≡ seat.old.table_id) × (seat.new.me ≡ seat.old.me) }
     ensures new { (result.table_id ≡ seat.old.table_id) × (result.me ≡ (note_of seat.old.me.0, [])) }
@@ -82,9 +82,9 @@ pub fn note<M: Machine>(
 
 /// Writes down what a caller knows, under its number.
 pub fn receipt<M: Machine>(
-    table: &Table<(), View<M::Item>, (), Counted<M>, Global>,
-    seat: &mut Seat<(), View<M::Item>>,
-) -> Seat<(), View<M::Item>>
+    table: &LockTable<M>,
+    seat: &mut LockSeat<M>,
+) -> LockSeat<M>
     requires table { (seat.old.table_id ≡ table.now.shared.table_id) × (table.now.shared.table_id.words ≡ 1) }
     requires caller { seat.old.me.0.kind ≡ Caller }
     ensures same { (seat.new.table_id ≡ seat.old.table_id) × (seat.new.me ≡ seat.old.me) }
@@ -95,9 +95,9 @@ pub fn receipt<M: Machine>(
 
 /// A caller learns what a note says that names nobody or this caller.
 pub fn take<M: Machine>(
-    table: &Table<(), View<M::Item>, (), Counted<M>, Global>,
-    seat: &mut Seat<(), View<M::Item>>,
-    note: Seat<(), View<M::Item>>,
+    table: &LockTable<M>,
+    seat: &mut LockSeat<M>,
+    note: LockSeat<M>,
 )
     requires table { (seat.old.table_id ≡ table.now.shared.table_id) × (note.table_id ≡ table.now.shared.table_id) × (table.now.shared.table_id.words ≡ 1) }
     requires caller { seat.old.me.0.kind ≡ Caller }
@@ -109,9 +109,9 @@ pub fn take<M: Machine>(
 
 /// The book learns what a receipt says.
 pub fn settle<M: Machine>(
-    table: &Table<(), View<M::Item>, (), Counted<M>, Global>,
-    book: &mut Seat<(), View<M::Item>>,
-    receipt: Seat<(), View<M::Item>>,
+    table: &LockTable<M>,
+    book: &mut LockSeat<M>,
+    receipt: LockSeat<M>,
 )
     requires table { (book.old.table_id ≡ table.now.shared.table_id) × (receipt.table_id ≡ table.now.shared.table_id) × (table.now.shared.table_id.words ≡ 1) }
     requires book { book.old.me.0.kind ≡ Book }

@@ -1,6 +1,7 @@
 // What a seat at the lock's table knows.
 use crate::machine::Machine;
-use atomic_table::TableRule;
+use atomic_table::{Seat, Table, TableRule};
+use std::alloc::Global;
 use std::collections::LinkedList;
 use std::marker::PhantomData;
 
@@ -50,4 +51,26 @@ impl<M: Machine> TableRule<(), View<M::Item>, ()> for Counted<M> {
     ghost holds = { λ _. holds_rule M.caller_of M.legal };
 
     ghost first = { λ _. opened };
+}
+
+/// The table of a lock over the machine `M`: one word, which counts the entries, and no slot.
+pub type LockTable<M> = Table<(), View<<M as Machine>::Item>, (), Counted<M>, Global>;
+
+/// A seat at that table.
+pub type LockSeat<M> = Seat<(), View<<M as Machine>::Item>>;
+
+impl<M: Machine> Counted<M> {
+    ghost use Rattle.std.specs.Prelude.{ℕ, List};
+    ghost use Rattle.history_lock.specs.Rule.{MeetsRule};
+    ghost use Rattle.history_lock.specs.PlainRule.{MeetsPlainRule};
+    ghost use Rattle.history_lock.specs.declared.view.View.{View};
+
+    /// The rule is stronger than its plain sentences: they hold of each table of which it holds.
+    #[tactic(auto, using(crate::proofs::PlainSentences::plain_from_rule))]
+    pub fn implies_plain_rule()
+        ensures { (words : List ℕ) (views : List (View M.Item))
+            → MeetsRule M.caller_of M.legal words views
+            → MeetsPlainRule M.caller_of M.legal words views }
+    {
+    }
 }

@@ -12,9 +12,9 @@ returns-clause-first g c =
     let b = c.take_note_of_pass-2.ensures in
     let p = c.take_note_of_pass.new.from in
     let w = c.take_note_of_pass-2.new.to in
-    let made : p.made ≤ w.made = subst (λ (k : ℕ). p.made ≤ k) (sym b.longer.1) (le-max_left p.made c.take_note_of_pass.new.to.made) in
+    let made : p.made ≤ w.made = subst (λ (k : ℕ). p.made ≤ k) (sym b.made) (le-max_left p.made c.take_note_of_pass.new.to.made) in
     subst (λ (q : Known g.row.M-Item.Denot). Learned m.caller_of m.legal q w) a.from
-    (learned_of m.caller_of m.legal p w b.number made (others_of m.caller_of p.number p.history w.history b.begins.0 b.own) b.legal)
+    (learned_of m.caller_of m.legal p w b.number made (others_of m.caller_of p.number p.history w.history b.begins b.own) b.legal)
 
 pub returns-clause-second : goal.returns-clause-second
 returns-clause-second g c =
@@ -23,6 +23,6 @@ returns-clause-second g c =
     let b = c.take_note_of_pass-2.ensures in
     let p = c.args.second.now in
     let w = c.take_note_of_pass.new.to in
-    let made : p.made ≤ w.made = subst (λ (k : ℕ). p.made ≤ k) (sym a.longer.1) (le-max_left p.made c.args.first.now.made) in
+    let made : p.made ≤ w.made = subst (λ (k : ℕ). p.made ≤ k) (sym a.made) (le-max_left p.made c.args.first.now.made) in
     subst (λ (q : Known g.row.M-Item.Denot). Learned m.caller_of m.legal p q) (sym b.from)
-    (learned_of m.caller_of m.legal p w a.number made (others_of m.caller_of p.number p.history w.history a.begins.0 a.own) a.legal)
+    (learned_of m.caller_of m.legal p w a.number made (others_of m.caller_of p.number p.history w.history a.begins a.own) a.legal)

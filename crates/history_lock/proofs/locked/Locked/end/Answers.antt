@@ -7,6 +7,6 @@ returns-clause-learned g c =
     let m = g.M.Machine in
     let s = c.settle_receipt.ensures in
     let t = c.take_note_of_book.ensures in
-    let knows = s.known.1 in
+    let knows = s.made in
     learned_told m.caller_of m.legal c.args.pass.now c.settle_receipt.new.pass c.take_note_of_book.new.pass c.self.inside.book.me.0.history c.settle_receipt.new.book.me.0.history c.settle_receipt.new.book.me.0.in_flight
-    s.pass s.book.0 t.pass.0 (s.idle c.self.invariant.1.idle) s.known.0 t.own t.pass.2 (omega (arith, t.pass.1, s.book.1, knows)) t.legal
+    s.pass s.book_history t.history (s.idle c.self.invariant.1.idle) s.begins t.own t.number (omega (arith, t.made, s.book_made, knows)) t.legal
