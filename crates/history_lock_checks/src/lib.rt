@@ -7,3 +7,5 @@ mod two;
 pub use tally::{Entry, Op, Refusal, Tally};
 pub use two::{add_all, added_by_two};
 
+#[cfg(test)]
+mod tests;

@@ -32,33 +32,53 @@ pub fn add_all<T: TableName, R: Wait>(
     added
 }
 
-/// Two threads add amounts each to a new tally, through passes of their own, which then meet. The lock is closed. The answer is the tally with the numbers of the two passes, where each amount was added and nobody else added any: then the tally has the amounts of each thread, each once and in the thread's order.
-pub fn added_by_two<'a, T: TableName + Send + Sync, R: Threads + Wait + Sync>(
+/// Two threads add amounts each at once, through passes of their own, which then meet. Says how many amounts each added. The one history that both passes know then has of each just these, in their order.
+pub fn add_beside<'a, T: TableName + Send + Sync, R: Threads + Wait + Sync>(
     rt: &'a R,
-    alloc: Global,
-    opened: Opened<Tally>,
+    lock: &'a HistoryLock<Tally, T>,
+    one: &mut Pass<Tally, T>,
+    two: &mut Pass<Tally, T>,
     first: &'a [u32],
     second: &'a [u32],
+) -> (usize, usize)
+    ensures equal { one.new.history ≡ two.new.history }
+    ensures first { entries_by (λ e. e.caller) one.old.number one.new.history
+        ≡ entries_by (λ e. e.caller) one.old.number one.old.history
+            ++ map (entry_of one.old.number) (take result.0 first.now) }
+    ensures second { entries_by (λ e. e.caller) two.old.number two.new.history
+        ≡ entries_by (λ e. e.caller) two.old.number two.old.history
+            ++ map (entry_of two.old.number) (take result.1 second.now) }
+    ensures counts { (result.0 ≤ length first.now) × (result.1 ≤ length second.now) }
+    ensures numbers { (one.new.number ≡ one.old.number) × (two.new.number ≡ two.old.number) }
+{
+    let counts = join_mut(
+        rt,
+        &mut || add_all(rt, lock, one, first),
+        &mut || add_all(rt, lock, two, second),
+    );
+    lock.meet(one, two);
+    counts
+}
+
+/// Two threads add amounts each to a new tally, as `add_beside` says, and the lock is closed. The answer is the tally with the numbers of the two passes, where each amount was added and nobody else added any. The tally has the amounts of each thread then, each once and in the thread's order.
+pub fn added_by_two<T: TableName + Send + Sync, R: Threads + Wait + Sync>(
+    rt: &R,
+    alloc: Global,
+    opened: Opened<Tally>,
+    first: &[u32],
+    second: &[u32],
 ) -> Option<(Tally, u32, u32)>
     requires { opened ≡ T.table }
     ensures apart { IfSome result (λ r. r.1 ≢ r.2) }
-    ensures first { IfSome result (λ r. entries_by (λ e. e.caller) r.1 r.0
-        ≡ map (entry_of r.1) first.now) }
-    ensures second { IfSome result (λ r. entries_by (λ e. e.caller) r.2 r.0
-        ≡ map (entry_of r.2) second.now) }
+    ensures each { IfSome result (λ r. (entries_by (λ e. e.caller) r.1 r.0 ≡ map (entry_of r.1) first.now)
+        × (entries_by (λ e. e.caller) r.2 r.0 ≡ map (entry_of r.2) second.now)) }
 {
     let (lock, mut one) = HistoryLock::<Tally, T>::start(Tally::new(alloc), opened).ok()?;
     let mut two = lock.admit(rt, &mut one).ok()?;
-    let shared = &lock;
-    let (of_one, of_two) = join_mut(
-        rt,
-        &mut || add_all(rt, shared, &mut one, first),
-        &mut || add_all(rt, shared, &mut two, second),
-    );
-    if of_one < first.len() || of_two < second.len() {
+    let counts = add_beside(rt, &lock, &mut one, &mut two, first, second);
+    if counts.0 < first.len() || counts.1 < second.len() {
         return None;
     }
-    lock.meet(&mut one, &mut two);
     let numbers = (one.number(), two.number());
     let tally = lock.close(one);
     if tally.entries().len() != first.len() + second.len() {
