@@ -1,19 +1,18 @@
 -- Each kind of step keeps the rule, from every state that meets it.
 use Rattle.std.proofs.Common.{zero, ◌≡◌, ◌≢◌, ℕ, suc, ◌+◌, ◌%◌, ◌^◌, ◌<◌, ◌≤◌, ◌⊎◌, inl, inr, Bool, true, false, List, [], ◌∷◌, ◌++◌, length, set, Some, None, Option, refl, sym, ap, ◌∙◌, subst, ⊎_elim, arith, length-append}
-use Rattle.std.specs.Prelude.{◌==◌, ◌&&◌, if◌then◌else◌, nat_lt, max, slice_set, slice_index}
+use Rattle.std.specs.Prelude.{◌==◌, ◌&&◌, if◌then◌else◌, nat_lt, slice_index}
 use Rattle.std.proofs.lemmas.Bool.Decides.{nat_tests}
 use mathlib.Core.List.{IsPrefix}
 use mathlib.Core.Option.{some, some-injective, some-ne-none}
 use lib.ListN.{get_elem?}
-use Rattle.atomic_table.specs.Table.{State, opening, Splits, Joins, Allows, Act, keeps}
-use Rattle.atomic_table.proofs.Lists.{at_set, at_longer, set_here, set_else, set_again}
-use Rattle.history_lock.specs.declared.view.Kind.{Kind}
-use Rattle.history_lock.specs.declared.view.Kind.TheVariants.{Book, Caller, Note, Receipt, Spent}
+use Rattle.atomic_table.specs.Table.{State, opening, Splits, Joins, Allows, keeps}
+use Rattle.atomic_table.proofs.Lists.{at_set, set_again}
+use Rattle.history_lock.specs.declared.view.Kind.TheVariants.{Book, Caller, Note, Receipt}
 use Rattle.history_lock.specs.declared.view.View.{View}
 use Rattle.history_lock.specs.Rule.{opened, FitsBook, Reaches, RuleAt, MeetsRule, IsTold, holds_rule}
 use Rattle.history_lock.specs.Kinds.{counted_up, newcomer, appended, note_of, longer_of, taken, receipt_of, in_flight_after, settled, spent}
 use Rattle.history_lock.proofs.Prefixes.{prefix_nil, prefix_self, prefix_trans, prefix_shorter, prefix_length, prefix_at, at_below, at_push}
-use Rattle.history_lock.proofs.Places.{each_set, each_push}
+use Rattle.history_lock.proofs.Places.{each_set}
 use Rattle.history_lock.proofs.Moves.{at_book, book_moves, adds, other_moves, spends}
 
 -- the views of a table that has just opened
@@ -43,7 +42,7 @@ module _ {I : Type 0} (caller_of : I → ℕ) (Legal : List I → Type 0) (S : T
   abbrev Held : State S (View I) → Type 0
   Held s = holds_rule caller_of Legal s
 
-  -- open
+  -- open: the rule holds of a table with no entry
   pub opens : Legal [] → Held (opening (0 ∷ []) [] opened)
   opens begins = (
     0,
@@ -70,7 +69,7 @@ module _ {I : Type 0} (caller_of : I → ℕ) (Legal : List I → Type 0) (S : T
     },
   )
 
-  -- append
+  -- append keeps the rule
   pub appends : (id slots : ℕ) (v : View I) (c : List (ℕ × S)) (e : I) → v.kind ≡ Book → v.in_flight ≡ None → caller_of e < v.made → Legal (v.history ++ e ∷ []) → length (v.history ++ e ∷ []) < 2 ^ 64
       → Allows Held slots id (v, c) 0 (λ n. (n + 1) % 2 ^ 64) (λ n w. (d : I) × (v.history ++ e ∷ [] ≡ v.history ++ d ∷ []) × (w ≡ (appended caller_of v d, c)))
   appends id slots v c e is idle below legal fits s kept homes at range =
@@ -121,7 +120,7 @@ module _ {I : Type 0} (caller_of : I → ℕ) (Legal : List I → Type 0) (S : T
         (r.seen k e (ap (λ (h : List I). get_elem? h k) (sym same) ∙ here) mine));
   }
 
-  -- admit
+  -- admit keeps the rule
   pub admits : (id : ℕ) (v : View I) → v.kind ≡ Book → v.in_flight ≡ None → v.made < 1048576 → Splits Held id v (counted_up v) (newcomer v)
   admits id v is idle room s kept at =
       let k = at_book caller_of Legal s.words s.views id v kept at is in
@@ -203,14 +202,14 @@ module _ {I : Type 0} (caller_of : I → ℕ) (Legal : List I → Type 0) (S : T
       (λ c. absurd (no_caller c))
       (λ c. absurd (no_caller c))
 
-  -- note
+  -- note keeps the rule, with no premise
   pub notes : (id : ℕ) (v : View I) → Splits Held id v v (note_of v)
   notes id v s kept at =
       let k = kept.2 in
       subst (λ (views : List (View I)). MeetsRule caller_of Legal s.words (views ++ note_of v ∷ [])) (sym (set_again s.views id v at))
       (kept.0, kept.1, copies s.words s.views kept.0 kept.1 id v (note_of v) k at refl refl refl refl refl (λ b. cc) (λ b. cc) (inr (inr refl)) (λ i x there c. ((λ n. n), (λ b. absurd (cc)))))
 
-  -- receipt
+  -- receipt keeps the rule
   pub receipts : (id : ℕ) (v : View I) → v.kind ≡ Caller → Splits Held id v v (receipt_of v)
   receipts id v is s kept at =
       let k = kept.2 in
@@ -227,7 +226,7 @@ module _ {I : Type 0} (caller_of : I → ℕ) (Legal : List I → Type 0) (S : T
             )),
       )
 
-  -- read
+  -- read keeps the rule, and tells what it says of the seat's own view
   pub reads : (id slots : ℕ) (v : View I) (c : List (ℕ × S)) → Allows Held slots id (v, c) 0 (λ n. n) (λ n w. (w ≡ (v, c)) × IsTold caller_of Legal v)
   reads id slots v c s kept homes at range =
       let k = kept.2 in
@@ -241,7 +240,7 @@ module _ {I : Type 0} (caller_of : I → ℕ) (Legal : List I → Type 0) (S : T
         (refl, record { legal = f.legal; old_begins = f.old_begins; note_begins = f.note_begins; old_counted = f.old_counted; top = omega arith; callers = (λ b. (at_book caller_of Legal s.words s.views id v kept at b).callers); numbered = f.numbered; own = f.own }),
       )
 
-  -- take
+  -- take keeps the rule, of a note that names nobody or this caller
   pub takes : (id : ℕ) (v : View I) (other : ℕ) (u : View I) → Legal [] → v.kind ≡ Caller → u.kind ≡ Note → (u.in_flight ≡ None) ⊎ (u.in_flight ≡ Some v.number) → Joins Held id v other u (taken v u) spent
   takes id v other u begins is note names s kept at apart there =
       let k = kept.2 in
@@ -294,7 +293,7 @@ module _ {I : Type 0} (caller_of : I → ℕ) (Legal : List I → Type 0) (S : T
       (λ c. record { apart = (λ _ _. refl); receipt = (λ q. absurd (cc)); seen = (λ i e there mine. inl (at_below w.history i e there)) }) in
       (b, book, spends caller_of Legal s.words (set s.views id w) b book other moved begins note_off)
 
-  -- settle
+  -- settle keeps the rule
   pub settles : (id : ℕ) (v : View I) (other : ℕ) (u : View I) → Legal [] → v.kind ≡ Book → u.kind ≡ Receipt → Joins Held id v other u (settled v u) spent
   settles id v other u begins is receipt s kept at apart there =
       let k = at_book caller_of Legal s.words s.views id v kept at is in

@@ -1,16 +1,15 @@
 -- The rule after a change of one view, or with one view more.
-use Rattle.std.proofs.Common.{◌≡◌, ◌≢◌, ℕ, suc, ◌<◌, ◌≤◌, ◌⊎◌, inl, inr, List, [], ◌∷◌, ◌++◌, length, set, Some, None, refl, sym, ap, ◌∙◌, subst, ⊎_elim, arith}
+use Rattle.std.proofs.Common.{◌≡◌, ◌≢◌, ℕ, ◌<◌, ◌≤◌, inl, List, [], ◌∷◌, ◌++◌, length, set, refl, sym, ap, ◌∙◌, subst, arith}
 use mathlib.Core.List.{IsPrefix}
 use mathlib.Core.Option.{some, some-injective, some-ne-none}
 use lib.ListN.{get_elem?}
 use Rattle.atomic_table.proofs.Lists.{at_longer, set_here, set_else}
-use Rattle.history_lock.specs.declared.view.Kind.{Kind}
-use Rattle.history_lock.specs.declared.view.Kind.TheVariants.{Book, Caller, Note, Receipt, Spent}
+use Rattle.history_lock.specs.declared.view.Kind.TheVariants.{Book, Caller}
 use Rattle.history_lock.specs.declared.view.View.{View}
 use Rattle.history_lock.specs.Rule.{FitsBook, Reaches, RuleAt, MeetsRule}
 use Rattle.history_lock.specs.Kinds.{spent}
-use Rattle.history_lock.proofs.Prefixes.{prefix_nil, prefix_self, prefix_trans, prefix_length, at_below}
-use Rattle.history_lock.proofs.Places.{each_set, each_push, Pairs, pairs_set, pairs_push}
+use Rattle.history_lock.proofs.Prefixes.{prefix_nil, prefix_trans, at_below}
+use Rattle.history_lock.proofs.Places.{each_set, each_push, pairs_set, pairs_push}
 
 module _ {I : Type 0} (caller_of : I → ℕ) (Legal : List I → Type 0) where
   abbrev IsCaller : View I → Type 0

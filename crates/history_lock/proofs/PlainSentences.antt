@@ -1,18 +1,18 @@
 -- The rule that the code keeps implies the rule in plain sentences.
-use Rattle.std.proofs.Common.{◌≡◌, ◌≢◌, ℕ, zero, suc, ◌+◌, ◌<◌, ◌≤◌, ◌⊎◌, inl, inr, Bool, true, false, List, [], ◌∷◌, ◌++◌, length, Some, None, Option, refl, sym, ap, ◌∙◌, subst, ⊎_elim, arith, append_assoc, length-append}
-use Rattle.std.specs.Prelude.{◌==◌, slice_get, All}
+use Rattle.std.proofs.Common.{◌≡◌, ◌≢◌, ℕ, suc, ◌+◌, ◌<◌, ◌⊎◌, inl, inr, Bool, true, false, List, [], ◌∷◌, ◌++◌, length, Some, None, refl, sym, ap, ◌∙◌, subst, ⊎_elim, arith, append_assoc, length-append}
+use Rattle.std.specs.Prelude.{◌==◌, slice_get}
 use Rattle.std.proofs.lemmas.Bool.Decides.{nat_tests}
 use Rattle.std.proofs.lemmas.List.Elements.{All-nil, All-cons}
 use mathlib.Core.List.{IsPrefix}
-use mathlib.Core.Option.{some, some-injective, some-ne-none}
+use mathlib.Core.Option.{some}
 use lib.ListN.{get_elem?}
-use Rattle.history_lock.specs.declared.view.Kind.TheVariants.{Book, Caller, Note, Receipt, Spent}
+use Rattle.history_lock.specs.declared.view.Kind.TheVariants.{Book, Note}
 use Rattle.history_lock.specs.declared.view.View.{View}
-use Rattle.history_lock.specs.Entries.{entries_by, NoneBy, GrownByOthers, Grown}
+use Rattle.history_lock.specs.Entries.{entries_by, NoneBy}
 use Rattle.history_lock.specs.Rule.{RuleAt, MeetsRule}
 use Rattle.history_lock.specs.PlainRule.{OwnEntries, PlainAt, MeetsPlainRule}
 use Rattle.history_lock.specs.PlainRule.OwnEntries.{had, told}
-use Rattle.history_lock.proofs.Prefixes.{prefix_trans, prefix_length, prefix_at, at_below}
+use Rattle.history_lock.proofs.Prefixes.{prefix_trans, prefix_at}
 use Rattle.history_lock.proofs.Growth.{none_by, at_behind, entries_by-none, entries_by-append, entries_by-own, entries_by-others}
 
 module _ {I : Type 0} (caller_of : I → ℕ) where

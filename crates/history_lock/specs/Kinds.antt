@@ -1,6 +1,6 @@
 -- What each kind of step makes of a view. An append makes `appended` of the book's view, a read changes none, and a table opens with `opened`, which stands in Rule.
-use Rattle.std.specs.Prelude.{◌≡◌, ℕ, suc, ◌<◌, ◌≤◌, ◌⊎◌, List, [], ◌∷◌, ◌++◌, length, None, Some, Option, Bool, ◌&&◌, ◌==◌, if◌then◌else◌, nat_lt, max}
-use Rattle.history_lock.specs.declared.view.Kind.TheVariants.{Book, Caller, Note, Receipt, Spent}
+use Rattle.std.specs.Prelude.{ℕ, suc, List, [], ◌∷◌, ◌++◌, length, None, Some, Option, Bool, ◌&&◌, ◌==◌, if◌then◌else◌, nat_lt, max}
+use Rattle.history_lock.specs.declared.view.Kind.TheVariants.{Caller, Note, Receipt, Spent}
 use Rattle.history_lock.specs.declared.view.View.{View}
 
 -- who is in flight once a receipt of the caller n is settled: nobody, if n was in flight and the receipt shows the whole history

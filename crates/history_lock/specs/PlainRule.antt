@@ -1,11 +1,11 @@
 -- The rule in plain sentences. The rule that the code keeps is stronger, since these sentences alone are not kept by each step: see docs/lock.md.
-use Rattle.std.specs.Prelude.{◌≡◌, ◌≢◌, ℕ, suc, ◌<◌, ◌≤◌, ◌⊎◌, List, [], ◌∷◌, ◌++◌, length, None, Some, Option, slice_get}
+use Rattle.std.specs.Prelude.{◌≡◌, ◌≢◌, ℕ, suc, ◌<◌, ◌≤◌, ◌⊎◌, List, [], ◌∷◌, ◌++◌, length, Some, slice_get}
 use mathlib.Core.List.{IsPrefix}
 use mathlib.Core.Option.{some}
 use lib.ListN.{get_elem?}
 use Rattle.history_lock.specs.declared.view.Kind.TheVariants.{Book, Caller, Note, Receipt, Spent}
 use Rattle.history_lock.specs.declared.view.View.{View}
-use Rattle.history_lock.specs.Entries.{entries_by}
+use Rattle.history_lock.specs.Entries.{entries_by, CallersBelow}
 
 module _ {I : Type 0} (caller_of : I → ℕ) where
   -- The entries of the caller in a history are those that it had before, or those and then the last of the note that names it
@@ -34,7 +34,7 @@ module _ {I : Type 0} (caller_of : I → ℕ) (Legal : List I → Type 0) where
     -- The numbers of callers' views differ and are below the book's count, and so are the callers of all entries.
     pub numbers_differ : (i : ℕ) (x : View I) (j : ℕ) (y : View I) → get_elem? views i ≡ some x → get_elem? views j ≡ some y → x.kind ≡ Caller → y.kind ≡ Caller → i ≢ j → x.number ≢ y.number
     pub numbers_below : (j : ℕ) (u : View I) → get_elem? views j ≡ some u → u.kind ≡ Caller → u.number < v.made
-    pub callers_below : (j : ℕ) (u : View I) → get_elem? views j ≡ some u → u.kind ≢ Spent → (k : ℕ) (e : I) → get_elem? u.history k ≡ some e → caller_of e < v.made
+    pub callers_below : (j : ℕ) (u : View I) → get_elem? views j ≡ some u → u.kind ≢ Spent → CallersBelow caller_of u.history v.made
     -- Each entry of a caller in another view stands below the length of the caller's own history. The one exception is the last entry of a history whose view is the book's or a note's, and names the caller.
     pub seen : (i : ℕ) (x : View I) (j : ℕ) (y : View I) → get_elem? views i ≡ some x → get_elem? views j ≡ some y → x.kind ≡ Caller → y.kind ≢ Spent → i ≢ j → (k : ℕ) (e : I) → get_elem? y.history k ≡ some e → caller_of e ≡ x.number
         → (k < length x.history) ⊎ (((y.kind ≡ Book) ⊎ (y.kind ≡ Note)) × (y.in_flight ≡ Some x.number) × (suc k ≡ length y.history))

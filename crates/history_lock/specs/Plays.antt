@@ -1,5 +1,5 @@
 -- What a step at the word tells its seat.
-use Rattle.std.specs.Prelude.{◌≡◌, ℕ, List, [], ◌∷◌, ◌++◌, length}
+use Rattle.std.specs.Prelude.{◌≡◌, ℕ, List, [], ◌∷◌, ◌++◌}
 use Rattle.atomic_table.specs.Table.{Step, Me}
 use Rattle.history_lock.specs.declared.view.View.{View}
 use Rattle.history_lock.specs.Rule.{IsTold}

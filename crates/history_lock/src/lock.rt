@@ -6,7 +6,6 @@ ghost use Rattle.history_lock.specs.Calls.{Learned, Answered, Refused, Admitted,
 
 use crate::locked::{Locked, settle_receipt, take_note_of_pass};
 use crate::machine::{EndCause, Machine};
-
 use crate::pass::{Pass, TableName};
 use crate::refused::{AdmitRefused, CallRefused};
 use crate::steps;
@@ -59,10 +58,7 @@ pub struct HistoryLock<M: Machine, T: TableName> {
 
 impl<M: Machine, T: TableName> HistoryLock<M, T> {
     /// Puts a machine with no entry under a lock, and makes the first pass, whose number is 0. It takes no memory, so the answer is always Ok.
-    pub fn start(
-        machine: M,
-        opened: Opened<M>,
-    ) -> Result<(HistoryLock<M, T>, Pass<M, T>), NoMemory>
+    pub fn start(machine: M, opened: Opened<M>) -> Result<(HistoryLock<M, T>, Pass<M, T>), NoMemory>
         requires machine { M.entries machine ≡ [] }
         requires table { opened ≡ T.table }
         ensures starts { IsOk result }
@@ -110,8 +106,10 @@ impl<M: Machine, T: TableName> HistoryLock<M, T> {
         op: M::Op,
     ) -> Result<M::Reply, CallRefused<M::Op, M::Refusal>>
         requires { (list : List M.Item) → M.legal list → M.is_ready pass.old.number op list }
-        ensures ok { IfOk result (λ reply. Answered M.caller_of M.legal M.is_ready M.gives pass.old op reply pass.new) }
-        ensures err { IfErr result (λ r. Refused M.caller_of M.legal M.refuses M.fits pass.old op r pass.new) }
+        ensures ok { IfOk result (λ reply.
+            Answered M.caller_of M.legal M.is_ready M.gives pass.old op reply pass.new) }
+        ensures err { IfErr result (λ r.
+            Refused M.caller_of M.legal M.refuses M.fits pass.old op r pass.new) }
     {
         let answer = self.locked.lock(rt).call(&self.table, pass, op);
         self.turn.notify_all();
@@ -125,8 +123,10 @@ impl<M: Machine, T: TableName> HistoryLock<M, T> {
         pass: &mut Pass<M, T>,
         op: M::Op,
     ) -> Result<M::Reply, CallRefused<M::Op, M::Refusal>>
-        ensures ok { IfOk result (λ reply. Answered M.caller_of M.legal M.is_ready M.gives pass.old op reply pass.new) }
-        ensures err { IfErr result (λ r. Refused M.caller_of M.legal M.refuses M.fits pass.old op r pass.new) }
+        ensures ok { IfOk result (λ reply.
+            Answered M.caller_of M.legal M.is_ready M.gives pass.old op reply pass.new) }
+        ensures err { IfErr result (λ r.
+            Refused M.caller_of M.legal M.refuses M.fits pass.old op r pass.new) }
     {
         let number = pass.number();
         let mut locked = self

@@ -1,9 +1,8 @@
 // The value under the lock, and what a call does while it holds it.
 ghost use Rattle.std.specs.Prelude.{max, ◌≡◌, ℕ, suc, ◌+◌, ◌<◌, ◌≤◌, ◌⊎◌, List, [], length, None, Some, IfOk, IfErr, MatchResult, MatchOption, IsSome, true, false};
 ghost use mathlib.Core.List.{IsPrefix};
-ghost use mathlib.Core.Option.{some};
-ghost use lib.ListN.{get_elem?};
 ghost use Rattle.history_lock.specs.declared.view.Kind.TheVariants.{Book};
+ghost use Rattle.history_lock.specs.Entries.{CallersBelow, OwnBelow, OwnBelowOrLast};
 ghost use Rattle.history_lock.specs.Names.{IsNamed};
 ghost use Rattle.history_lock.specs.Kinds.{longer_of};
 ghost use Rattle.history_lock.specs.Calls.{Learned, Answered, Refused, IsEndedBy, Admitted, NoneAdmitted};
@@ -56,14 +55,16 @@ pub fn settle_receipt<M: Machine, T: TableName>(
     ensures book_history { book.new.me.0.history ≡ book.old.me.0.history }
     ensures book_made { book.new.me.0.made ≡ book.old.me.0.made }
     ensures idle { book.old.me.0.in_flight ≡ None → book.new.me.0.in_flight ≡ None }
-    ensures lands { book.old.me.0.in_flight ≡ Some pass.old.number → pass.old.history ≡ book.old.me.0.history → book.new.me.0.in_flight ≡ None }
+    ensures lands { book.old.me.0.in_flight ≡ Some pass.old.number
+        → pass.old.history ≡ book.old.me.0.history
+        → book.new.me.0.in_flight ≡ None }
     ensures pass { pass.new ≡ pass.old }
     ensures begins { IsPrefix pass.old.history book.old.me.0.history }
     ensures made { pass.old.made ≤ book.old.me.0.made }
     ensures top { book.old.me.0.made ≤ 1048576 }
     ensures number { pass.old.number < pass.old.made }
     ensures legal { M.legal book.old.me.0.history }
-    ensures callers { (k : ℕ) (e : M.Item) → get_elem? book.old.me.0.history k ≡ some e → M.caller_of e < book.old.me.0.made }
+    ensures callers { CallersBelow M.caller_of book.old.me.0.history book.old.me.0.made }
 {
     let token = steps::receipt(table, &mut pass.seat);
     steps::settle(table, book, token);
@@ -80,13 +81,15 @@ pub fn take_note_of_book<M: Machine, T: TableName>(
     requires seat { book.old.table_id ≡ T.table }
     requires begins { IsPrefix pass.old.history book.old.me.0.history }
     requires counted { pass.old.made ≤ book.old.me.0.made }
-    requires names { (book.old.me.0.in_flight ≡ None) ⊎ (book.old.me.0.in_flight ≡ Some pass.old.number) }
+    requires names { (book.old.me.0.in_flight ≡ None)
+        ⊎ (book.old.me.0.in_flight ≡ Some pass.old.number) }
     ensures book { (book.new.table_id ≡ T.table) × (book.new.me ≡ book.old.me) }
     ensures history { pass.new.history ≡ book.old.me.0.history }
     ensures made { pass.new.made ≡ book.old.me.0.made }
     ensures number { pass.new.number ≡ pass.old.number }
     ensures legal { M.legal pass.new.history }
-    ensures own { (k : ℕ) (e : M.Item) → get_elem? book.old.me.0.history k ≡ some e → M.caller_of e ≡ pass.old.number → (k < length pass.old.history) ⊎ ((book.old.me.0.in_flight ≡ Some pass.old.number) × (suc k ≡ length book.old.me.0.history)) }
+    ensures own { OwnBelowOrLast M.caller_of pass.old.number book.old.me.0.history
+        (length pass.old.history) book.old.me.0.in_flight (length book.old.me.0.history) }
 {
     let note = steps::note(table, book);
     steps::take(table, &mut pass.seat, note);
@@ -107,7 +110,7 @@ pub fn take_note_of_pass<M: Machine, T: TableName>(
     ensures covers { IsPrefix from.old.history to.new.history }
     ensures number { to.new.number ≡ to.old.number }
     ensures legal { M.legal to.new.history }
-    ensures own { (k : ℕ) (e : M.Item) → get_elem? to.new.history k ≡ some e → M.caller_of e ≡ to.old.number → k < length to.old.history }
+    ensures own { OwnBelow M.caller_of to.old.number to.new.history (length to.old.history) }
 {
     let note = steps::note(table, &mut from.seat);
     steps::take(table, &mut to.seat, note);
@@ -123,13 +126,18 @@ impl<M: Machine, T: TableName> Locked<M, T> {
         op: M::Op,
     ) -> Result<M::Reply, CallRefused<M::Op, M::Refusal>>
         requires table { IsNamed table.now.shared.table_id T.table }
-        requires turn { IsSome self.old.2 ⊎ (M.legal self.old.0 → M.is_ready pass.old.number op self.old.0) }
-        ensures ok { IfOk result (λ reply. Answered M.caller_of M.legal M.is_ready M.gives pass.old op reply pass.new) }
-        ensures err { IfErr result (λ r. Refused M.caller_of M.legal M.refuses M.fits pass.old op r pass.new) }
-        ensures whole { MatchResult result (λ _. pass.new.history ≡ self.new.0) (λ r. (self.new.0 ≡ self.old.0) × (pass.new.history ≡ self.old.0) × IsEndedBy r self.old.2) }
+        requires turn { IsSome self.old.2
+            ⊎ (M.legal self.old.0 → M.is_ready pass.old.number op self.old.0) }
+        ensures ok { IfOk result (λ reply.
+            Answered M.caller_of M.legal M.is_ready M.gives pass.old op reply pass.new) }
+        ensures err { IfErr result (λ r.
+            Refused M.caller_of M.legal M.refuses M.fits pass.old op r pass.new) }
+        ensures whole { pass.new.history ≡ self.new.0 }
+        ensures not_ended { IfOk result (λ _. self.old.2 ≡ None) }
+        ensures refused { IfErr result (λ r. (self.new.0 ≡ self.old.0) × IsEndedBy r self.old.2) }
         ensures rest { (self.new.1 ≡ self.old.1) × (self.new.2 ≡ self.old.2) }
     {
-        settle_receipt(table, &mut self.book, pass); // before an append
+        settle_receipt(table, &mut self.book, pass);
         if let Some(cause) = self.cause {
             take_note_of_book(table, &mut self.book, pass);
             return Err(CallRefused::Ended { cause, op });
@@ -138,11 +146,11 @@ impl<M: Machine, T: TableName> Locked<M, T> {
             Ok(reply) => {
                 steps::append::<M, Brand>(table, &mut self.book, &self.machine);
                 take_note_of_book(table, &mut self.book, pass);
-                settle_receipt(table, &mut self.book, pass); // after an append
+                settle_receipt(table, &mut self.book, pass);
                 Ok(reply)
             }
             Err((refusal, op)) => {
-                take_note_of_book(table, &mut self.book, pass); // refused
+                take_note_of_book(table, &mut self.book, pass); // what it is refused after
                 Err(CallRefused::Machine { refusal, op })
             }
         }
@@ -165,19 +173,22 @@ impl<M: Machine, T: TableName> Locked<M, T> {
         requires { IsNamed table.now.shared.table_id T.table }
         ensures ok { IfOk result (λ new. Admitted M.caller_of M.legal pass.old new pass.new) }
         ensures full { IfErr result (λ r. NoneAdmitted M.caller_of M.legal pass.old r pass.new) }
-        ensures made { MatchResult result (λ new. (new.number ≡ self.old.1) × (self.new.1 ≡ self.old.1 + 1)) (λ _. (self.old.1 ≡ 1048576) × (self.new.1 ≡ self.old.1)) }
+        ensures made { IfOk result (λ new. (new.number ≡ self.old.1) × (self.new.1 ≡ self.old.1 + 1)) }
+        ensures only_full { IfErr result (λ _. (self.old.1 ≡ 1048576) × (self.new.1 ≡ self.old.1)) }
         ensures whole { pass.new.history ≡ self.old.0 }
         ensures rest { (self.new.0 ≡ self.old.0) × (self.new.2 ≡ self.old.2) }
     {
         settle_receipt(table, &mut self.book, pass);
         if self.made >= MOST_PASSES {
             take_note_of_book(table, &mut self.book, pass);
-            return Err(AdmitRefused::Full { admitted: self.made });
+            return Err(AdmitRefused::Full {
+                admitted: self.made,
+            });
         }
         let number = self.made;
         let seat = steps::admit(table, &mut self.book);
         self.made += 1;
-        take_note_of_book(table, &mut self.book, pass); // admitted
+        take_note_of_book(table, &mut self.book, pass);
         Ok(Pass {
             number,
             seat,
@@ -186,17 +197,13 @@ impl<M: Machine, T: TableName> Locked<M, T> {
     }
 
     /// Keeps the cause, unless one is kept already, and answers the kept one.
-    pub fn end(
-        &mut self,
-        table: &LockTable<M>,
-        pass: &mut Pass<M, T>,
-        cause: EndCause,
-    ) -> EndCause
+    pub fn end(&mut self, table: &LockTable<M>, pass: &mut Pass<M, T>, cause: EndCause) -> EndCause
         requires table { IsNamed table.now.shared.table_id T.table }
         requires fits { M.fits cause pass.old.history pass.old.made }
         ensures fits { M.fits result pass.new.history pass.new.made }
         ensures learned { Learned M.caller_of M.legal pass.old pass.new }
-        ensures kept { (self.new.2 ≡ Some result) × MatchOption self.old.2 (result ≡ cause) (λ first. result ≡ first) }
+        ensures kept { self.new.2 ≡ Some result }
+        ensures first { MatchOption self.old.2 (result ≡ cause) (λ first. result ≡ first) }
         ensures whole { pass.new.history ≡ self.old.0 }
         ensures rest { (self.new.0 ≡ self.old.0) × (self.new.1 ≡ self.old.1) }
     {

@@ -11,25 +11,14 @@ use atomic_table::Table;
 use std::alloc::{AllocError, Global};
 
 /// Makes a table of one word, which is 0, and the book's seat at it.
-pub fn open<M: Machine>(
-    alloc: Global,
-) -> Result<
-    (
-        LockTable<M>,
-        LockSeat<M>,
-    ),
-    AllocError,
->
+pub fn open<M: Machine>(alloc: Global) -> Result<(LockTable<M>, LockSeat<M>), AllocError>
     ensures { IfOk result (λ t. (t.0.shared.table_id.words ≡ 1) × (t.1.table_id ≡ t.0.shared.table_id) × (t.1.me ≡ (opened, []))) }
 {
     Table::of_words(alloc, &[0], &())
 }
 
 /// A seat reads the word, and learns what the rule says of its view.
-pub fn read<M: Machine>(
-    table: &LockTable<M>,
-    seat: &mut LockSeat<M>,
-)
+pub fn read<M: Machine>(table: &LockTable<M>, seat: &mut LockSeat<M>)
     requires { (seat.old.table_id ≡ table.now.shared.table_id) × (table.now.shared.table_id.words ≡ 1) }
     ensures same { (seat.new.table_id ≡ seat.old.table_id) × (seat.new.me ≡ seat.old.me) }
     ensures told { IsTold M.caller_of M.legal seat.old.me.0 }
@@ -56,10 +45,7 @@ pub fn append<M: Machine, W: Written<M::Item>>(
 }
 
 /// Makes the seat of the next caller.
-pub fn admit<M: Machine>(
-    table: &LockTable<M>,
-    book: &mut LockSeat<M>,
-) -> LockSeat<M>
+pub fn admit<M: Machine>(table: &LockTable<M>, book: &mut LockSeat<M>) -> LockSeat<M>
     requires table { (book.old.table_id ≡ table.now.shared.table_id) × (table.now.shared.table_id.words ≡ 1) }
     requires book { (book.old.me.0.kind ≡ Book) × (book.old.me.0.in_flight ≡ None) × (book.old.me.0.made < 1048576) }
     ensures same { (book.new.table_id ≡ book.old.table_id) × (book.new.me ≡ (counted_up book.old.me.0, book.old.me.1)) }
@@ -69,10 +55,7 @@ pub fn admit<M: Machine>(
 }
 
 /// Writes down what the seat knows.
-pub fn note<M: Machine>(
-    table: &LockTable<M>,
-    seat: &mut LockSeat<M>,
-) -> LockSeat<M>
+pub fn note<M: Machine>(table: &LockTable<M>, seat: &mut LockSeat<M>) -> LockSeat<M>
     requires { (seat.old.table_id ≡ table.now.shared.table_id) × (table.now.shared.table_id.words ≡ 1) }
     ensures same { (seat.new.table_id ≡ seat.old.table_id) × (seat.new.me ≡ seat.old.me) }
     ensures new { (result.table_id ≡ seat.old.table_id) × (result.me ≡ (note_of seat.old.me.0, [])) }
@@ -81,10 +64,7 @@ pub fn note<M: Machine>(
 }
 
 /// Writes down what a caller knows, under its number.
-pub fn receipt<M: Machine>(
-    table: &LockTable<M>,
-    seat: &mut LockSeat<M>,
-) -> LockSeat<M>
+pub fn receipt<M: Machine>(table: &LockTable<M>, seat: &mut LockSeat<M>) -> LockSeat<M>
     requires table { (seat.old.table_id ≡ table.now.shared.table_id) × (table.now.shared.table_id.words ≡ 1) }
     requires caller { seat.old.me.0.kind ≡ Caller }
     ensures same { (seat.new.table_id ≡ seat.old.table_id) × (seat.new.me ≡ seat.old.me) }
@@ -94,11 +74,7 @@ pub fn receipt<M: Machine>(
 }
 
 /// A caller learns what a note says that names nobody or this caller.
-pub fn take<M: Machine>(
-    table: &LockTable<M>,
-    seat: &mut LockSeat<M>,
-    note: LockSeat<M>,
-)
+pub fn take<M: Machine>(table: &LockTable<M>, seat: &mut LockSeat<M>, note: LockSeat<M>)
     requires table { (seat.old.table_id ≡ table.now.shared.table_id) × (note.table_id ≡ table.now.shared.table_id) × (table.now.shared.table_id.words ≡ 1) }
     requires caller { seat.old.me.0.kind ≡ Caller }
     requires note { (note.me.1 ≡ []) × (note.me.0.kind ≡ Note) × ((note.me.0.in_flight ≡ None) ⊎ (note.me.0.in_flight ≡ Some seat.old.me.0.number)) }
@@ -108,11 +84,7 @@ pub fn take<M: Machine>(
 }
 
 /// The book learns what a receipt says.
-pub fn settle<M: Machine>(
-    table: &LockTable<M>,
-    book: &mut LockSeat<M>,
-    receipt: LockSeat<M>,
-)
+pub fn settle<M: Machine>(table: &LockTable<M>, book: &mut LockSeat<M>, receipt: LockSeat<M>)
     requires table { (book.old.table_id ≡ table.now.shared.table_id) × (receipt.table_id ≡ table.now.shared.table_id) × (table.now.shared.table_id.words ≡ 1) }
     requires book { book.old.me.0.kind ≡ Book }
     requires receipt { (receipt.me.1 ≡ []) × (receipt.me.0.kind ≡ Receipt) }

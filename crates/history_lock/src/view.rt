@@ -71,6 +71,5 @@ impl<M: Machine> Counted<M> {
         ensures { (words : List ℕ) (views : List (View M.Item))
             → MeetsRule M.caller_of M.legal words views
             → MeetsPlainRule M.caller_of M.legal words views }
-    {
-    }
+    {}
 }

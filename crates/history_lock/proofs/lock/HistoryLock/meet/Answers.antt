@@ -1,4 +1,4 @@
-use Rattle.std.proofs.Common.{◌≡◌, ◌≤◌, ℕ, List, sym, ap, ◌∙◌, subst}
+use Rattle.std.proofs.Common.{◌≤◌, ℕ, sym, subst}
 use Rattle.std.proofs.Math.Nat.{le-max_left}
 use Rattle.history_lock.specs.Known.{Known}
 use Rattle.history_lock.specs.Calls.{Learned}

@@ -1,5 +1,4 @@
-use Rattle.std.proofs.Common.{◌≡◌, ◌<◌, ◌+◌, ℕ, suc, List, sym, ap, ◌∙◌, subst, arith}
-use mathlib.Core.List.{IsPrefix}
+use Rattle.std.proofs.Common.{◌≡◌, ◌<◌, ℕ, suc, List, sym, ap, ◌∙◌, subst, arith}
 use mathlib.Core.Option.{some}
 use lib.ListN.{get_elem?}
 use Rattle.history_lock.specs.Entries.{NoneBy}
@@ -42,7 +41,7 @@ returns-clause-ok g c =
     let idle = ap (λ (v : View g.row.M-Item.Denot). v.in_flight) book ∙ s.idle inv.1.idle in
     let knows = s.made in
     let none : NoneBy m.caller_of c.self.inside.made new.history = none_above m.caller_of new.history c.self.inside.made
-        (subst (λ (x : List g.row.M-Item.Denot × ℕ). (k : ℕ) (e : g.row.M-Item.Denot) → get_elem? x.0 k ≡ some e → m.caller_of e < x.1) (λ i. (sym history i, sym number i)) s.callers) in
+    (subst (λ (x : List g.row.M-Item.Denot × ℕ). (k : ℕ) (e : g.row.M-Item.Denot) → get_elem? x.0 k ≡ some e → m.caller_of e < x.1) (λ i. (sym history i, sym number i)) s.callers) in
     record {
       number = omega (arith, number, knows);
       made = omega (arith, number, made, s.book_made);
