@@ -1,6 +1,4 @@
 // Lines as they are written, and answers as they are printed.
-ghost use Rattle.std.specs.Prelude.{◌≡◌, length, IfOk};
-ghost use Rattle.scenario_text.specs.Answers.{AnswerNamesLoad, MessageNamesLoad};
 
 use crate::{Step, answer_text, read_line};
 use authority_model::{
@@ -219,9 +217,7 @@ fn text(alloc: Global, bytes: &[u8]) -> Result<Text, Fail> {
 }
 
 /// A history with one load, which has one action.
-fn one_load(alloc: Global) -> Result<History, Fail>
-    ensures { IfOk result (λ history. length history.loads ≡ 1) }
-{
+fn one_load(alloc: Global) -> Result<History, Fail> {
     let mut loaded = Loaded::empty(alloc);
     loaded.policy.actions.try_push(Action {
         id: ActionId::read(&text(alloc, b"a.yes")?)?,
@@ -244,18 +240,14 @@ fn one_load(alloc: Global) -> Result<History, Fail>
 }
 
 /// Whether the message is printed so, as the second to connection 4.
-fn is_printed(alloc: Global, message: Message, want: &str) -> Result<bool, Fail>
-    requires { MessageNamesLoad 1 message }
-{
+fn is_printed(alloc: Global, message: Message, want: &str) -> Result<bool, Fail> {
     let history = one_load(alloc)?;
     let output = Output { to: 4, message };
     let line = answer_text(alloc, &output, &history, 2)?;
     Ok(line.as_slice() == want.as_bytes())
 }
 
-fn is_answered(alloc: Global, answer: Answer, want: &str) -> Result<bool, Fail>
-    requires { AnswerNamesLoad 1 answer }
-{
+fn is_answered(alloc: Global, answer: Answer, want: &str) -> Result<bool, Fail> {
     is_printed(alloc, Message::Reply { serial: 9, answer }, want)
 }
 
