@@ -4,6 +4,7 @@ ghost use Rattle.authority_model.specs.Built.{IsBuiltCall, IsBuiltEvent};
 ghost use Rattle.authority_model.specs.Items.{items_of};
 ghost use Rattle.authority_model.specs.Legal.{IsLegal};
 ghost use Rattle.scenario_run.specs.Scene.{is_built, is_built_call, plain_action};
+ghost use Rattle.scenario_run.specs.Text.{loads_of};
 ghost use Rattle.scenario_text.specs.Faults.{IsFaultOf};
 
 use crate::draft::put;
@@ -117,6 +118,7 @@ impl Stage {
     /// The journal, which is legal.
     pub fn history(&self) -> &History
         ensures items { items_of result.now ≡ self.now.past }
+        ensures loads { result.now.loads ≡ loads_of self.now.past }
         ensures legal { IsLegal result.now }
     {
         self.authority.history()
