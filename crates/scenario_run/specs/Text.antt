@@ -14,7 +14,7 @@ loads_of (i ∷ past) = loads_of past ++ option_to_list i.loaded
 
 -- the counts of outputs by connection, with one more for this one
 abbrev pub one_more : (ℕ → ℕ) → ℕ → ℕ → ℕ
-one_more counts to = λ c. if c == to then counts c + 1 else counts c
+one_more counts to = λ c. if to == c then counts c + 1 else counts c
 
 -- the lines of outputs, where so many were sent to each connection before
 abbrev pub outputs_text : List Loaded → (ℕ → ℕ) → List Output → List ℕ

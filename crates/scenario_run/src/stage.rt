@@ -220,12 +220,7 @@ impl Stage {
     ///
     /// # Errors
     /// The first fault of the line, or `NoMemory`.
-    pub fn take_line(
-        &mut self,
-        alloc: Global,
-        line: &[u8],
-        number: u64,
-    ) -> Result<Taken, LineFault>
+    pub fn take_line(&mut self, alloc: Global, line: &[u8], number: u64) -> Result<Taken, LineFault>
         ensures ok { OnOk result (run_line self.old line.now ≡ Ok self.new) }
         ensures taken { IfOk result (λ taken. TakenIs taken self.old.past self.new.past) }
         ensures err { IfErr result (λ fault. IsFaultOf fault.kind (run_line self.old line.now)) }
