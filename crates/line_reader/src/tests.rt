@@ -52,7 +52,15 @@ fn long_lines_and_faults_stop_at_once(rt: HostRuntime) -> Result<(), Fail> {
     let mut line = Vec::new(alloc);
     let mut long = source(alloc, b"12345678", 1, &[])?;
     let mut reader = LineReader::new(alloc).map_err(|_| "out of memory")?;
-    assert!(rt; gives(&mut reader, &mut long, &mut line, LineGot::TooLong, b"12345"));
+    assert!(rt;
+        gives(
+            &mut reader,
+            &mut long,
+            &mut line,
+            LineGot::TooLong,
+            b"12345"
+        )
+    );
     let mut broken = source(alloc, b"a\nb", 2, &[2])?;
     let mut reader = LineReader::new(alloc).map_err(|_| "out of memory")?;
     assert!(rt; gives(&mut reader, &mut broken, &mut line, LineGot::Line, b"a"));
