@@ -170,10 +170,10 @@ impl Authority {
         ensures back { IfErr result (λ refused. refused ≡ LoadStepRefused.NoMemory loaded) }
     {
         let place = self.history.entries.len();
-        let moment = self.moment.max(moment);
+        let greatest = self.moment.max(moment);
         let entry = Entry {
             caller,
-            moment,
+            moment: greatest,
             salt: 0,
             event: Event::Load { load: 1 },
             outputs: List::new(self.alloc),
@@ -184,7 +184,7 @@ impl Authority {
         }
         match self.history.loads.push_or_return(loaded) {
             Ok(()) => {
-                self.moment = moment;
+                self.moment = greatest;
                 Ok(place as u64)
             }
             Err(loaded) => {

@@ -1,1 +1,234 @@
-// Each public call once, over the answers of checks by root and by defaults.
+// Each public call once, with ample memory, and the answers of checks by root and by defaults.
+ghost use Rattle.std.specs.Prelude.{◌≡◌, [], IfOk};
+ghost use Rattle.authority_model.specs.Lists.{Each};
+ghost use Rattle.authority_model.specs.Built.{IsBuiltEvent, IsPlainLoad};
+
+use crate::{Authority, Limits};
+use authority_model::{
+    Action, ActionList, Answer, Call, Decision, Entry, ErrorCause, Event, Loaded, Message, Process,
+    ProcessList, RuleSource,
+};
+use pk_types::{ActionId, Category, Implicit, List, NoMemory, Subject, Text};
+use std::alloc::Global;
+use std::test::Fail;
+
+const LIMITS: Limits = Limits {
+    entries: 1_048_576,
+    bytes: 536_870_912,
+};
+
+/// What an entry tells its caller.
+#[derive(Clone, Copy, Debug, PartialEq, Eq)]
+enum Told {
+    Yes,
+    No,
+    Challenge,
+    Refused(ErrorCause),
+    Nothing,
+}
+
+fn answer_in(entry: &Entry) -> Told {
+    let Some(output) = entry.outputs.get(0) else {
+        return Told::Nothing;
+    };
+    let Message::Reply { answer, .. } = &output.message else {
+        return Told::Nothing;
+    };
+    match answer {
+        Answer::Verdict(verdict) => {
+            if verdict.yes {
+                Told::Yes
+            } else if verdict.challenge {
+                Told::Challenge
+            } else {
+                Told::No
+            }
+        }
+        Answer::Refused(cause) => Told::Refused(*cause),
+        _ => Told::Nothing,
+    }
+}
+
+/// Caller, serial, quiet, pid, start and action of a check, and what it is told.
+const ROWS: [(u32, u32, bool, u32, u64, &str, Told); 11] = [
+    (1, 1, false, 51, 8, "a.yes", Told::Yes),
+    (1, 2, false, 51, 8, "a.no", Told::No),
+    (1, 3, false, 51, 8, "a.admin", Told::Challenge),
+    (2, 1, false, 1, 1, "a.no", Told::Yes),
+    (
+        1,
+        4,
+        false,
+        60,
+        9,
+        "a.yes",
+        Told::Refused(ErrorCause::NotTrusted),
+    ),
+    (2, 2, false, 60, 9, "a.no", Told::No),
+    (
+        1,
+        5,
+        false,
+        9,
+        9,
+        "a.none",
+        Told::Refused(ErrorCause::UnknownAction),
+    ),
+    (
+        1,
+        6,
+        false,
+        9,
+        9,
+        "a.yes",
+        Told::Refused(ErrorCause::UnknownSubject),
+    ),
+    (1, 7, true, 51, 8, "a.yes", Told::Nothing),
+    (1, 0, false, 51, 8, "a.yes", Told::Nothing),
+    (3, 1, false, 51, 8, "a.yes", Told::Nothing),
+];
+
+const ANY: RuleSource = RuleSource::Default(Category::Any);
+
+/// Pid, start and action, and what is decided.
+const DECISIONS: [(u32, u64, &str, Option<Decision>); 6] = [
+    (1, 1, "a.no", Some(Decision::Root)),
+    (51, 8, "a.yes", Some(Decision::Yes(ANY))),
+    (51, 8, "a.no", Some(Decision::No(ANY))),
+    (
+        51,
+        8,
+        "a.admin",
+        Some(Decision::Challenge(Implicit::AuthAdmin, ANY)),
+    ),
+    (51, 8, "a.none", None),
+    (51, 9, "a.yes", None),
+];
+
+fn action(alloc: Global, id: &str, any: Implicit) -> Result<Action, Fail>
+    ensures bare { IfOk result (λ action. action.annotations ≡ []) }
+{
+    let id = ActionId::read(&Text::try_from_bytes(alloc, id.as_bytes())?)?;
+    Ok(Action {
+        id,
+        descriptions: List::new(alloc),
+        messages: List::new(alloc),
+        vendor: Text::new(alloc),
+        vendor_url: Text::new(alloc),
+        icon: Text::new(alloc),
+        any,
+        inactive: any,
+        active: any,
+        annotations: List::new(alloc),
+    })
+}
+
+fn process(pid: u32, start: u64, uid: u32) -> Process {
+    Process {
+        pid,
+        start,
+        uid,
+        session: None,
+    }
+}
+
+fn plain_actions(alloc: Global) -> Result<ActionList, Fail>
+    ensures bare { IfOk result (λ actions. Each (λ a. a.annotations ≡ []) actions) }
+{
+    let mut actions = List::new(alloc);
+    actions.try_push(action(alloc, "a.yes", Implicit::Yes)?)?;
+    actions.try_push(action(alloc, "a.no", Implicit::No)?)?;
+    actions.try_push(action(alloc, "a.admin", Implicit::AuthAdmin)?)?;
+    Ok(actions)
+}
+
+fn some_processes(alloc: Global) -> Result<ProcessList, NoMemory> {
+    let mut processes = List::new(alloc);
+    processes.try_push(process(1, 1, 0))?;
+    processes.try_push(process(51, 8, 1000))?;
+    processes.try_push(process(60, 9, 1001))?;
+    Ok(processes)
+}
+
+fn plain_load(alloc: Global) -> Result<Loaded, Fail>
+    ensures plain { IfOk result IsPlainLoad }
+{
+    let mut loaded = Loaded::empty(alloc);
+    loaded.policy.actions = plain_actions(alloc)?;
+    loaded.world.processes = some_processes(alloc)?;
+    Ok(loaded)
+}
+
+fn check(
+    alloc: Global,
+    serial: u32,
+    quiet: bool,
+    pid: u32,
+    start: u64,
+    id: &str,
+) -> Result<Event, Fail>
+    ensures built { IfOk result IsBuiltEvent }
+{
+    let action = Text::try_from_bytes(alloc, id.as_bytes())?;
+    Ok(Event::Call {
+        serial,
+        quiet,
+        call: Call::Check {
+            subject: Subject::Process { pid, start },
+            action,
+            details: List::new(alloc),
+            flags: 0,
+            cancel: Text::new(alloc),
+        },
+    })
+}
+
+/// An authority with a load at moment 5, which is its first entry.
+fn started(alloc: Global) -> Result<Authority, Fail> {
+    let loaded = plain_load(alloc)?;
+    let mut authority = Authority::start(alloc, LIMITS)?;
+    match authority.load(0, 5, loaded) {
+        Ok(0) => Ok(authority),
+        _ => Err(NoMemory)?,
+    }
+}
+
+/// The answer to an event, whose entry is the last one and has moment 5.
+fn answered(authority: &mut Authority, caller: u32, event: Event) -> Option<Told>
+    requires built { IsBuiltEvent event }
+{
+    let place = authority.step(caller, 3, 0, event).ok()?;
+    let entry = authority.entry(place)?;
+    if entry.moment != 5 || authority.history().entries.len() as u64 != place + 1 {
+        return None;
+    }
+    Some(answer_in(entry))
+}
+
+#[test]
+fn checks_by_root_and_by_defaults(rt: HostRuntime) -> Result<(), Fail> {
+    let alloc = rt.alloc();
+    let mut authority = started(alloc)?;
+    for (caller, uid) in [(1, 1000), (2, 0)] {
+        let told = answered(&mut authority, caller, Event::Connect { uid });
+        assert_eq!(rt; told, Some(Told::Nothing));
+    }
+    for (caller, serial, quiet, pid, start, id, want) in ROWS {
+        let event = check(alloc, serial, quiet, pid, start, id)?;
+        let told = answered(&mut authority, caller, event);
+        assert_eq!(rt; told, Some(want), "{id} of {pid} by {caller}");
+    }
+    Ok(())
+}
+
+#[test]
+fn decisions_are_told(rt: HostRuntime) -> Result<(), Fail> {
+    let alloc = rt.alloc();
+    let authority = started(alloc)?;
+    for (pid, start, id, want) in DECISIONS {
+        let id = Text::try_from_bytes(alloc, id.as_bytes())?;
+        let told = authority.decide(0, &Subject::Process { pid, start }, &id);
+        assert_eq!(rt; told, want, "of {pid}");
+    }
+    Ok(())
+}

@@ -7,3 +7,4 @@ pub mod CostExamples
 pub mod Cases
 pub mod Pairing
 pub mod LastLoad
+pub mod FirstPlace

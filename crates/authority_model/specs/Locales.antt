@@ -1,16 +1,17 @@
 -- The text that a locale chooses.
+use Rattle.std.specs.List.{before_first}
 use Rattle.std.specs.Prelude.{◌==◌, ◌||◌, List, [], Option, option_map, bytes_eq, find}
 use Rattle.authority_model.specs.declared.policy.Localized.{Localized}
 use Rattle.authority_model.specs.Lists.{or_else}
-use Rattle.authority_model.specs.Words.{Bytes, up_to}
+use Rattle.authority_model.specs.Words.{Bytes}
 
 -- a locale without its encoding and its modifier: what stands before its first `.` or `@`
 abbrev pub language_of : Bytes → Bytes
-language_of locale = up_to (λ b. (b == 46) || (b == 64)) locale
+language_of locale = before_first (λ b. (b == 46) || (b == 64)) locale
 
 -- a language without its territory: what stands before its first `_`
 abbrev pub without_territory : Bytes → Bytes
-without_territory language = up_to (λ b. b == 95) language
+without_territory language = before_first (λ b. b == 95) language
 
 -- the first text in a language
 abbrev pub in_language : List Localized → Bytes → Option Bytes

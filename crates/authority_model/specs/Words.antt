@@ -26,11 +26,6 @@ runs parts (b ∷ bs) = if parts b then runs parts bs else run_joined parts b bs
 abbrev pub words : Bytes → List Bytes
 words text = runs is_blank text
 
--- the bytes before the first one at which the test holds
-abbrev pub up_to : (ℕ → Bool) → Bytes → Bytes
-up_to stops [] = []
-up_to stops (b ∷ bs) = if stops b then [] else b ∷ up_to stops bs
-
 -- what is left of a text behind this front
 abbrev pub after_front : Bytes → Bytes → Option Bytes
 after_front [] text = Some text
