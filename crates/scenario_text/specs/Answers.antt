@@ -1,5 +1,5 @@
 -- The line that answers with an output.
-use Rattle.std.specs.Prelude.{true, false, ℕ, ◌-◌, ◌==◌, Bool, List, [], ◌∷◌, ◌++◌, Option, None, Some, codes, length, if◌then◌else◌, slice_get}
+use Rattle.std.specs.Prelude.{true, false, ℕ, ◌-◌, ◌==◌, Bool, List, [], ◌++◌, Option, None, Some, codes, length, if◌then◌else◌, slice_get}
 use Rattle.std.specs.Option.{option_map_or}
 use Rattle.std.specs.Fmt.{decimal}
 use Rattle.authority_model.specs.declared.journal.History.{History}

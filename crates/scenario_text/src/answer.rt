@@ -125,6 +125,9 @@ fn message_text(
 /// connection, counted from 1, which BeginAuthentication shows.
 ///
 /// What asks the loader for something has no bytes.
+///
+/// # Errors
+/// `NoMemory` alone.
 pub fn answer_text(
     alloc: Global,
     output: &Output,
