@@ -39,7 +39,9 @@ impl<M: Machine> Model for Opened<M> {
 }
 
 /// Opens the table of a lock. Its name is picked next, and then the lock starts with it.
-pub fn open_table<M: Machine>(alloc: Global) -> Result<Opened<M>, NoMemory> {
+pub fn open_table<M: Machine>(alloc: Global) -> Result<Opened<M>, NoMemory>
+    ensures { IfOk result (λ opened. opened.words ≡ 1) }
+{
     let (table, book) = steps::open::<M>(alloc)?;
     Ok(Opened { table, book })
 }

@@ -33,8 +33,9 @@ fn add_hundred<T: TableName + Send + Sync, R: Threads + Wait + Abort + Sync>(
         first[k] = k as u32 + 1;
         second[k] = k as u32 + 1001;
     }
-    let (tally, one, two) = added_by_two::<T, R>(rt, alloc, opened, &first, &second)
-        .ok_or("all are added")?;
+    let (tally, one, two) = added_by_two::<T, R>(rt, alloc, opened, &first, &second).ok_or(
+        "all are added",
+    )?;
     assert_eq!(rt; tally.entries().len(), 200);
     assert!(rt; added_in_order(&tally, one, 1) && added_in_order(&tally, two, 1001));
     Ok(())
@@ -43,7 +44,9 @@ fn add_hundred<T: TableName + Send + Sync, R: Threads + Wait + Abort + Sync>(
 /// Whether the caller's amounts are a hundred, and go up by one from the first.
 fn added_in_order(tally: &Tally, caller: u32, first: u32) -> bool {
     let mut amounts = tally.entries().iter().filter(|e| e.caller == caller);
-    let in_order = (first..first.saturating_add(100)).all(|amount| amounts.next().is_some_and(|e| e.amount == amount));
+    let in_order = (first..first.saturating_add(100)).all(|amount| amounts
+        .next()
+        .is_some_and(|e| e.amount == amount));
     in_order && amounts.next().is_none()
 }
 
@@ -63,11 +66,17 @@ fn wait_for_another<T: TableName + Send + Sync, R: Threads + Wait + Abort + Sync
     let (lock, mut one) = HistoryLock::<Tally, T>::start(Tally::new(alloc), opened)?;
     let mut two = lock.admit(rt, &mut one).ok().ok_or("admits")?;
     let shared = &lock;
-    let after_two = Op::AddAfter { amount: 7, entries: 2 };
+    let after_two = Op::AddAfter {
+        amount: 7,
+        entries: 2,
+    };
     let (waited, added) = join(
         rt,
         || shared.call_when_ready(rt, &mut one, after_two).ok(),
-        || (shared.call(rt, &mut two, Op::Add(5)).ok(), shared.call(rt, &mut two, Op::Add(6)).ok()),
+        || (
+            shared.call(rt, &mut two, Op::Add(5)).ok(),
+            shared.call(rt, &mut two, Op::Add(6)).ok(),
+        ),
     );
     assert_eq!(rt; waited, Some(2));
     assert_eq!(rt; added, (Some(0), Some(1)));
@@ -96,21 +105,76 @@ fn refuse_and_end<T: TableName + Send + Sync, R: Threads + Wait + Abort + Sync>(
     let (lock, mut one) = HistoryLock::<Tally, T>::start(Tally::new(alloc), opened)?;
     let mut two = lock.admit(rt, &mut one).ok().ok_or("admits")?;
     assert_eq!(rt; (one.number(), two.number()), (0, 1));
-    let nothing = lock.call(rt, &mut one, Op::Add(0)).err().ok_or("adds nothing")?;
-    assert!(rt; matches!(nothing, CallRefused::Machine { refusal: Refusal::Nothing, op: Op::Add(0) }));
+    let nothing = lock
+        .call(rt, &mut one, Op::Add(0))
+        .err()
+        .ok_or("adds nothing")?;
+    assert!(rt;
+        matches!(
+            nothing,
+            CallRefused::Machine {
+                refusal: Refusal::Nothing,
+                op: Op::Add(0)
+            }
+        )
+    );
     assert_eq!(rt; lock.call(rt, &mut one, Op::Add(3)).ok(), Some(0));
     let shared = &lock;
     let (waited, kept) = join(
         rt,
-        || shared.call_when_ready(rt, &mut two, Op::AddAfter { amount: 4, entries: 9 }).err(),
-        || shared.end(rt, &mut one, EndCause::JournalFull { entries: 1, bytes: 64 }),
+        || shared
+            .call_when_ready(
+                rt,
+                &mut two,
+                Op::AddAfter {
+                    amount: 4,
+                    entries: 9,
+                },
+            )
+            .err(),
+        || shared.end(
+            rt,
+            &mut one,
+            EndCause::JournalFull {
+                entries: 1,
+                bytes: 64,
+            },
+        ),
     );
-    let full = EndCause::JournalFull { entries: 1, bytes: 64 };
+    let full = EndCause::JournalFull {
+        entries: 1,
+        bytes: 64,
+    };
     assert_eq!(rt; kept, full);
-    assert!(rt; matches!(waited, Some(CallRefused::Ended { cause: EndCause::JournalFull { entries: 1, bytes: 64 }, op: _ })));
+    assert!(rt;
+        matches!(
+            waited,
+            Some(CallRefused::Ended {
+                cause: EndCause::JournalFull {
+                    entries: 1,
+                    bytes: 64
+                },
+                op: _
+            })
+        )
+    );
     assert_eq!(rt; lock.end(rt, &mut two, EndCause::NoMemory), full);
-    let ended = lock.call(rt, &mut one, Op::Add(5)).err().ok_or("has ended")?;
-    assert!(rt; matches!(ended, CallRefused::Ended { cause: EndCause::JournalFull { entries: 1, bytes: 64 }, op: Op::Add(5) }));
+    let ended = lock
+        .call(rt, &mut one, Op::Add(5))
+        .err()
+        .ok_or("has ended")?;
+    assert!(rt;
+        matches!(
+            ended,
+            CallRefused::Ended {
+                cause: EndCause::JournalFull {
+                    entries: 1,
+                    bytes: 64
+                },
+                op: Op::Add(5)
+            }
+        )
+    );
     assert_eq!(rt; lock.close(one).entries().len(), 1);
     Ok(())
 }
@@ -134,6 +198,11 @@ fn make_each_pass<T: TableName + Send + Sync, R: Threads + Wait + Abort + Sync>(
         assert_eq!(rt; pass.number(), number);
     }
     let refused = lock.admit(rt, &mut one).err();
-    assert_eq!(rt; refused, Some(AdmitRefused::Full { admitted: MOST_PASSES }));
+    assert_eq!(rt;
+        refused,
+        Some(AdmitRefused::Full {
+            admitted: MOST_PASSES
+        })
+    );
     Ok(())
 }

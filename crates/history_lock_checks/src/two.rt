@@ -20,7 +20,7 @@ pub fn add_all<T: TableName, R: Wait>(
     ensures number { pass.new.number ≡ pass.old.number }
     ensures own { entries_by (λ e. e.caller) pass.old.number pass.new.history
         ≡ entries_by (λ e. e.caller) pass.old.number pass.old.history
-            ++ map (entry_of pass.old.number) (take result amounts.now) }
+        ++ map (entry_of pass.old.number) (take result amounts.now) }
 {
     let mut added = 0;
     for amount in amounts {
@@ -44,10 +44,10 @@ pub fn add_beside<'a, T: TableName + Send + Sync, R: Threads + Wait + Sync>(
     ensures equal { one.new.history ≡ two.new.history }
     ensures first { entries_by (λ e. e.caller) one.old.number one.new.history
         ≡ entries_by (λ e. e.caller) one.old.number one.old.history
-            ++ map (entry_of one.old.number) (take result.0 first.now) }
+        ++ map (entry_of one.old.number) (take result.0 first.now) }
     ensures second { entries_by (λ e. e.caller) two.old.number two.new.history
         ≡ entries_by (λ e. e.caller) two.old.number two.old.history
-            ++ map (entry_of two.old.number) (take result.1 second.now) }
+        ++ map (entry_of two.old.number) (take result.1 second.now) }
     ensures counts { (result.0 ≤ length first.now) × (result.1 ≤ length second.now) }
     ensures numbers { (one.new.number ≡ one.old.number) × (two.new.number ≡ two.old.number) }
 {

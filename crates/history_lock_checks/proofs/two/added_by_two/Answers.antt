@@ -1,7 +1,5 @@
-use Rattle.std.proofs.Common.{◌≡◌, ◌≢◌, ℕ, ◌+◌, ◌≤◌, List, [], ◌++◌, length, map, take, sym, ap, ◌∙◌, subst, arith, rules}
-use mathlib.Core.List.{IsPrefix}
+use Rattle.std.proofs.Common.{◌≡◌, ◌≢◌, ℕ, ◌+◌, List, [], ◌++◌, length, map, take, sym, ap, ◌∙◌, subst, arith, rules}
 use Rattle.history_lock.specs.Entries.{entries_by}
-use Rattle.history_lock.specs.Known.{Known}
 use Rattle.history_lock_checks.specs.Tallies.{entry_of}
 use Rattle.history_lock_checks.specs.declared.tally.Entry.{Entry}
 use Rattle.history_lock_checks.proofs.Wholes.{whole_of_two}
@@ -24,8 +22,7 @@ returns-clause-each g c =
     let w = whole_of_two h list one.number two.number c.add_beside-counts.result.0 c.add_beside-counts.result.1 c.args.first.now c.args.second.now apart c.close-tally.ensures.begins
     (b.first ∙ ap (λ (l : List Entry). l ++ map (entry_of one.number) (take c.add_beside-counts.result.0 c.args.first.now)) before)
     (ap (entries_by by two.number) b.equal ∙ b.second ∙ ap (λ (l : List Entry). l ++ map (entry_of two.number) (take c.add_beside-counts.result.1 c.args.second.now)) before')
-    (omega arith) (omega arith) long in
-    (
+    (omega arith) (omega arith) long in (
       subst (λ (k : ℕ). entries_by by k list ≡ map (entry_of k) c.args.first.now) m w.0,
       subst (λ (k : ℕ). entries_by by k list ≡ map (entry_of k) c.args.second.now) n w.1,
     )
