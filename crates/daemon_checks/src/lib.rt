@@ -1,0 +1,10 @@
+//! Tests of the daemon's commands from outside: scenarios with their answers, and objects of the
+//! outside that fail.
+#![tactic(auto)]
+
+#[cfg(test)]
+mod faults;
+#[cfg(test)]
+mod rows;
+#[cfg(test)]
+mod runs;

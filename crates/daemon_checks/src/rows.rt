@@ -1,0 +1,155 @@
+// Scenarios, and what a replay answers.
+use crate::runs::{SMOOTH, Ways, run};
+use std::test::Fail;
+
+/// A scenario, what is written, the text of the status and its code.
+type Row = (&'static str, &'static str, &'static str, u8);
+
+const CHECKS: &str =
+    "process 1 1 0 -\nprocess 51 8 1000 -\nprocess 60 9 1001 -\naction a.yes yes yes yes\naction a.no no no no\npeer 1 1000\npeer 2 0\ncheck 1 1 process:51:8 a.yes\ncheck 1 2 process:51:8 a.no\ncheck 2 1 process:1:1 a.no\ncheck 1 4 process:60:9 a.yes\ncheck 1 5 process:9:9 a.none\ncheck 1 6 process:9:9 a.yes\n";
+
+const ANSWERS: &str =
+    "1 1 yes default:any\n1 2 no default:any\n2 1 yes root\n1 4 error NotAuthorized not-trusted\n1 5 error Failed unknown-action\n1 6 error Failed unknown-subject\n";
+
+const ROWS: [Row; 22] = [
+    ("", "", "Done", 0),
+    (CHECKS, ANSWERS, "Done", 0),
+    ("action a.yes yes yes yes", "", "Done", 0),
+    ("peer 1 1000\nchek 1 1", "", "BadLine 2 Word", 6),
+    ("peer 1 1000\nchek 1 1\npeer 0 0\n", "", "BadLine 2 Word", 6),
+    ("peer 0 0\n", "", "BadLine 1 Number", 6),
+    ("peer 1\n", "", "BadLine 1 Count", 6),
+    ("action a auth_self no no\n", "", "BadLine 1 Value", 6),
+    ("process 5 5 7 s1\n", "", "BadLine 1 Value", 6),
+    ("check 1 1 process:1:1 a ask\n", "", "BadLine 1 Value", 6),
+    ("at 5\n", "", "BadLine 1 Word", 6),
+    ("# a comment\n\n#\n", "", "Done", 0),
+    (
+        "process 5 5 7 -\naction a no no no\naction a yes yes yes\npeer 1 7\ncheck 1 1 process:5:5 a\n",
+        "1 1 yes default:any\n",
+        "Done",
+        0,
+    ),
+    (
+        "process 5 5 7 -\nprocess 5 6 7 -\naction a yes yes yes\npeer 1 7\ncheck 1 1 process:5:5 a\ncheck 1 2 process:5:6 a\n",
+        "1 1 error Failed unknown-subject\n1 2 yes default:any\n",
+        "Done",
+        0,
+    ),
+    (
+        "process 5 5 7 -\naction a yes no no\npeer 1 7\ncheck 1 1 process:5:5 a",
+        "1 1 yes default:any\n",
+        "Done",
+        0,
+    ),
+    (
+        "process 5 5 7 -\naction a no yes yes\npeer 1 7\ncheck 1 1 process:5:5 a",
+        "1 1 no default:any\n",
+        "Done",
+        0,
+    ),
+    // What comes behind the first event is no part of the load that it began with.
+    (
+        "peer 1 7\nprocess 5 5 7 -\naction a yes yes yes\ncheck 1 1 process:5:5 a\n",
+        "1 1 error Failed unknown-action\n",
+        "Done",
+        0,
+    ),
+    // A connection that is not there is told nothing, and a second Connect changes nothing.
+    (
+        "process 5 5 7 -\naction a yes yes yes\ncheck 1 1 process:5:5 a\npeer 1 7\npeer 1 8\ncheck 1 2 process:5:5 a\n",
+        "1 2 yes default:any\n",
+        "Done",
+        0,
+    ),
+    // The refusals come in their order.
+    (
+        "process 5 5 7 -\nprocess 6 6 8 -\naction a yes yes yes\npeer 1 7\ncheck 1 1 process:6:6 b\ncheck 1 2 process:7:7 b\ncheck 1 3 process:7:7 a\ncheck 1 4 process:6:6 a\n",
+        "1 1 error Failed unknown-action\n1 2 error Failed unknown-action\n1 3 error Failed unknown-subject\n1 4 error NotAuthorized not-trusted\n",
+        "Done",
+        0,
+    ),
+    // Root may ask about anybody, and is answered by root only about itself.
+    (
+        "process 1 1 0 -\nprocess 5 5 7 -\naction a no no no\npeer 1 0\ncheck 1 1 process:5:5 a\ncheck 1 2 process:1:1 a\n",
+        "1 1 no default:any\n1 2 yes root\n",
+        "Done",
+        0,
+    ),
+    (
+        "process 5 5 7 -\naction a yes yes yes\npeer 1048575 7\ncheck 1048575 4294967295 process:5:5 a\n",
+        "1048575 4294967295 yes default:any\n",
+        "Done",
+        0,
+    ),
+    (
+        "process 5 5 7 -\naction a yes yes yes\npeer 1 7\ncheck 1 1 process:5:5 a\ncheck 1 0 process:5:5 a\n",
+        "1 1 yes default:any\n",
+        "BadLine 5 Number",
+        6,
+    ),
+];
+
+#[test]
+fn scenarios_are_answered(rt: HostRuntime) -> Result<(), Fail> {
+    for (scenario, answers, status, code) in ROWS {
+        let ended = run(&rt, rt.alloc(), &["replay"], scenario.as_bytes(), SMOOTH)?;
+        assert_eq!(rt; ended.status.as_str(), status, "{scenario}");
+        assert_eq!(rt; ended.code, code, "{scenario}");
+        assert_eq!(rt; ended.written.as_slice(), answers.as_bytes(), "{scenario}");
+    }
+    Ok(())
+}
+
+#[test]
+fn pieces_change_nothing(rt: HostRuntime) -> Result<(), Fail> {
+    for piece in [1, 2, 3, 7, 64] {
+        let ways = Ways {
+            read_piece: piece,
+            write_piece: piece,
+            ..SMOOTH
+        };
+        let ended = run(&rt, rt.alloc(), &["replay"], CHECKS.as_bytes(), ways)?;
+        assert_eq!(rt; ended.status.as_str(), "Done");
+        assert_eq!(rt; ended.written.as_slice(), ANSWERS.as_bytes());
+    }
+    Ok(())
+}
+
+#[test]
+fn long_lines_are_refused(rt: HostRuntime) -> Result<(), Fail> {
+    let alloc = rt.alloc();
+    for (len, status) in [(4096usize, "Done"), (4097, "BadLine 2 TooLong")] {
+        let mut scenario = b"peer 1 7\n#".as_slice().to_vec(alloc)?;
+        for _ in 1..len {
+            scenario.push(b'x')?;
+        }
+        let ended = run(&rt, alloc, &["replay"], scenario.as_slice(), SMOOTH)?;
+        assert_eq!(rt; ended.status.as_str(), status);
+        scenario.extend_from_slice(b"\npeer 2 8\n")?;
+        let ended = run(&rt, alloc, &["replay"], scenario.as_slice(), SMOOTH)?;
+        assert_eq!(rt; ended.status.as_str(), status);
+    }
+    Ok(())
+}
+
+#[test]
+fn other_words_are_refused(rt: HostRuntime) -> Result<(), Fail> {
+    let commands: [&[&str]; 8] = [
+        &[],
+        &[""],
+        &["Replay"],
+        &["replay", "--root"],
+        &["replay", "replay"],
+        &["replay", "--entries", "3"],
+        &["--help"],
+        &["load", "6"],
+    ];
+    for words in commands {
+        let ended = run(&rt, rt.alloc(), words, CHECKS.as_bytes(), SMOOTH)?;
+        assert_eq!(rt; ended.status.as_str(), "Usage");
+        assert_eq!(rt; ended.code, 1);
+        assert!(rt; ended.written.is_empty());
+    }
+    Ok(())
+}

@@ -1,0 +1,81 @@
+// A run of the daemon over objects in memory.
+use pk_outside::{ByteSink, ByteSource, ListStation, ListTree};
+use pk_types::{List, Text, TextList};
+use polkit_daemon::polkitd;
+use std::alloc::Global;
+use std::sync::Wait;
+use std::test::Fail;
+use std::thread::Threads;
+
+/// How a run ended: the text of its status, its exit code, and what was written.
+#[derive(Drop)]
+pub struct Ended {
+    pub status: String,
+    pub code: u8,
+    pub written: Vec<u8>,
+}
+
+/// How the input comes and the output goes: pieces in bytes, and the numbers of the calls that fail.
+#[derive(Clone, Copy)]
+pub struct Ways {
+    pub read_piece: usize,
+    pub read_fault: u64,
+    pub write_piece: usize,
+    pub write_fault: u64,
+}
+
+/// Whole pieces and no fault.
+pub const SMOOTH: Ways = Ways {
+    read_piece: 4096,
+    read_fault: 0,
+    write_piece: 4096,
+    write_fault: 0,
+};
+
+/// The room of the output, in bytes.
+const ROOM: usize = 65536;
+
+fn words_of(alloc: Global, words: &[&str]) -> Result<TextList, Fail> {
+    let mut list = List::new(alloc);
+    for word in words {
+        list.try_push(Text::try_from_bytes(alloc, word.as_bytes())?)?;
+    }
+    Ok(list)
+}
+
+/// Runs the daemon with these words over this input.
+pub fn run<R: Threads + Wait + Sync>(
+    rt: &R,
+    alloc: Global,
+    words: &[&str],
+    input: &[u8],
+    ways: Ways,
+) -> Result<Ended, Fail> {
+    let words = words_of(alloc, words)?;
+    let bytes = input.to_vec(alloc)?;
+    let mut source = ByteSource::new(
+        bytes,
+        ways.read_piece.max(1),
+        vec![in alloc; ways.read_fault]?,
+    );
+    let mut sink = ByteSink::new(
+        alloc,
+        ROOM,
+        ways.write_piece.max(1),
+        vec![in alloc; ways.write_fault]?,
+    )?;
+    let status = polkitd(
+        rt,
+        alloc,
+        words.as_slice(),
+        &mut ListTree::new(),
+        &mut ListStation::new(),
+        &mut source,
+        &mut sink,
+    );
+    Ok(Ended {
+        status: format!(in alloc; "{status}")?,
+        code: status.code(),
+        written: sink.bytes().to_vec(alloc)?,
+    })
+}
