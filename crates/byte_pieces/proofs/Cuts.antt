@@ -1,5 +1,5 @@
 -- How the pieces and the lines of bytes follow from cuts.
-use Rattle.std.proofs.Common.{◌≡◌, ◌≢◌, ◌++◌, [], ◌∷◌, ◌+◌, ◌<◌, List, ℕ, suc, refl, sym, ◌∙◌, ap, take, drop, length, get_or, arith, map, append_assoc, append-nil, Bor, add-one, drop-cons, eq-eqb, Bool, true, false, ◌==◌}
+use Rattle.std.proofs.Common.{◌≡◌, ◌≢◌, ◌++◌, [], ◌∷◌, ◌+◌, ◌<◌, List, ℕ, suc, refl, sym, ◌∙◌, ap, take, drop, length, get_or, arith, map, append_assoc, append-nil, Bor, add-one, drop-cons, eq-eqb, true, false, ◌==◌}
 use Rattle.std.proofs.lemmas.List.{map-append, get_or-take, length-take, take-append-drop, nil_from_length}
 use Rattle.std.proofs.lemmas.Bool.{ne_eqb, eqb-true}
 use Rattle.byte_pieces.specs.Pieces.{Lacks, lines_of, pieces_of, IsCut}

@@ -2,5 +2,7 @@
 #![tactic(auto)]
 
 mod cutting;
+#[cfg(test)]
+mod tests;
 
 pub use cutting::{cut, lines, pieces};

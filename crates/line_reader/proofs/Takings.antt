@@ -1,11 +1,11 @@
 -- How a line grows by pieces of the bytes that were read.
-use Rattle.std.proofs.Common.{◌≡◌, ◌≢◌, ◌++◌, [], ◌∷◌, ◌+◌, ◌≤◌, List, ℕ, Bool, true, false, refl, sym, ◌∙◌, ap, take, drop, length, arith, append_assoc, append-nil, ◌==◌}
+use Rattle.std.proofs.Common.{◌≡◌, ◌++◌, [], ◌∷◌, ◌+◌, ◌≤◌, List, ℕ, refl, sym, ◌∙◌, ap, take, drop, length, arith, append_assoc, append-nil}
 use Rattle.std.proofs.Math.Seq.{drop-drop, drop-append-add}
 use Rattle.std.proofs.lemmas.List.{take-append-le, take-take, take-append-drop, length-append}
 use Rattle.std.proofs.lemmas.Grind.{common_steps}
 use Rattle.byte_pieces.specs.Pieces.{Lacks, IsCut}
 use Rattle.byte_pieces.proofs.Cuts.{lacks_append}
-use Rattle.line_reader.specs.Reading.{Grows, TakesFront, TakesLine, TakesTooMany}
+use Rattle.line_reader.specs.Reading.{Grows}
 
 -- Behind a cut.
 after_cut : (x piece after : List ℕ) (start : ℕ) → drop start x ≡ piece ++ 10 ∷ after → drop (start + (length piece + 1)) x ≡ after

@@ -10,7 +10,7 @@ pub record HasCause {T E : Type 0} (before now : ℕ) (result : Result T E) : Ty
   pub later : before ≤ now
   pub failed : OnErr result (Rose before now)
 
--- The count rose exactly where the test says so.
+-- The count rose where the test says so, and else it stayed.
 abbrev pub RoseWhere : Bool → ℕ → ℕ → Type 0
-RoseWhere true before now = Rose before now
+RoseWhere true before now = (before ≤ now) × Rose before now
 RoseWhere false before now = now ≡ before

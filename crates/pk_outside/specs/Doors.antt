@@ -1,7 +1,7 @@
 -- What a door tells, and what its calls do to it.
 use Rattle.std.specs.Prelude.{◌≡◌, ◌++◌, [], ◌∷◌, List, ℕ, Option, None, Some}
 use Rattle.pk_outside.specs.Causes.{Rose}
-use Rattle.pk_outside.specs.Links.{Origin, LinkBack, EndsTell}
+use Rattle.pk_outside.specs.Links.{Origin, LinkBack}
 use Rattle.pk_outside.specs.declared.door.Accepted.{Accepted}
 use Rattle.pk_outside.specs.declared.door.Accepted.TheVariants as accepted
 
@@ -20,7 +20,7 @@ GivesLink None None link = Unit {0}
 GivesLink None (Some after) link = ⊥
 GivesLink (Some before) None link = ⊥
 GivesLink (Some before) (Some after) link =
-    (bytes : List ℕ) × (before ≡ record after { left = bytes ∷ after.left }) × (link ≡ Some (record { path = before.path; bytes = bytes }))
+    (given : Origin) × (link ≡ Some given) × (before ≡ record after { left = given.bytes ∷ after.left })
 
 -- No link is left, where it is told.
 abbrev pub IsEmptied : Option DoorTold → Type 0
@@ -48,4 +48,4 @@ TakesBack None None tells = Unit {0}
 TakesBack None (Some after) tells = ⊥
 TakesBack (Some before) None tells = ⊥
 TakesBack (Some before) (Some after) tells =
-    (link : LinkBack) × tells before.path link × (after ≡ record before { taken = before.taken ++ link ∷ [] })
+    (path : List ℕ) × (link : LinkBack) × tells path link × (after ≡ record before { taken = before.taken ++ link ∷ [] })

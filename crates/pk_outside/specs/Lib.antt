@@ -9,3 +9,4 @@ pub mod Refusals
 pub mod Memory
 pub mod Held
 pub mod HeldLink
+pub mod Real

@@ -1,7 +1,8 @@
 -- What is told of a link: with what it was given, and with what it came back.
 use Rattle.std.specs.Prelude.{◌≡◌, List, ℕ, Option, Some, option_map}
 
--- The path that a link was dialled at, or that its door stands at, and the bytes that it gives.
+-- The path that a link was dialled at, which counts for a dialled link alone, and all of the bytes
+-- that it gives.
 pub record Origin : Type 0 where
   pub path : List ℕ
   pub bytes : List ℕ

@@ -15,6 +15,8 @@ mod memory;
 mod real;
 mod station;
 mod stream;
+#[cfg(test)]
+mod tests;
 mod tree;
 
 pub use clock::{Clock, Salt};

@@ -1,6 +1,9 @@
 // Any reader and any writer of std, as standard input and standard output, with a count of the
 // faults. They are the trusted edge: nothing is told of their content.
-ghost use Rattle.std.specs.Prelude.{◌≤◌, ◌^◌};
+ghost use Rattle.std.specs.Prelude.{◌≡◌, ◌+◌, ◌≤◌, ◌<◌, ◌^◌, IsTrue, IfOk, MatchResult, length, take};
+ghost use Rattle.std.specs.Io.{ReadsAtMost};
+ghost use Rattle.std.specs.Io.KnownBytes.{Appends, Consumes};
+ghost use Rattle.pk_outside.specs.Causes.{HasCause};
 
 use crate::{Failed, Sink, Source};
 use std::io::{Read, Write};
@@ -18,9 +21,14 @@ pub struct ReadSource<R: Read> {
     ghost bounded: { budget ≤ 2 ^ 62 },
 }
 
-impl<R: Read> ReadSource<R> {
+impl<R: Read + Drop + Send> ReadSource<R> {
+    ghost use Rattle.pk_outside.specs.Real.{reader_of};
+
     /// A source that reads from this reader. It takes no memory.
-    pub fn new(inner: R) -> Self {
+    pub fn new(inner: R) -> Self
+        ensures reader { reader_of result ≡ inner }
+        ensures sound { ⟦<ReadSource<R> as Source>⟧.faults result ≡ 0 }
+    {
         ReadSource {
             inner,
             budget: BUDGET,
@@ -28,10 +36,18 @@ impl<R: Read> ReadSource<R> {
             faults: 0,
         }
     }
+
+    /// How many calls failed.
+    pub fn faults(&self) -> u64
+        ensures faults { result ≡ ⟦<ReadSource<R> as Source>⟧.faults self.now }
+    {
+        self.faults
+    }
 }
 
 impl<R: Read + Drop + Send> Source for ReadSource<R> {
     ghost use Rattle.std.specs.Prelude.{None};
+    ghost use Rattle.pk_outside.specs.Real.{reader_of};
 
     ghost left = { λ _. None };
 
@@ -45,7 +61,14 @@ impl<R: Read + Drop + Send> Source for ReadSource<R> {
 
     ghost ended_is_used_up = { λ s at_end. tt };
 
-    fn read(&mut self, buffer: &mut [u8]) -> Result<usize, Failed> {
+    fn read(&mut self, buffer: &mut [u8]) -> Result<usize, Failed>
+        requires { 0 < length buffer.old }
+        ensures bound { ReadsAtMost result buffer.new }
+        ensures end { IfOk result (λ n. n ≡ 0 → IsTrue self.new.ended) }
+        ensures cause { HasCause self.old.faults self.new.faults result }
+        ensures fewer { MatchResult result (λ n. self.new.budget + n ≤ self.old.budget) (λ _. self.new.budget ≤ self.old.budget) }
+        ensures through { IfOk result (λ n. Consumes (R.remaining (reader_of self.old)) (R.remaining (reader_of self.new)) (take n buffer.new)) }
+    {
         let room = buffer.len().min(self.budget);
         if room > 0 {
             if let Ok(count) = self.inner.read(&mut buffer[..room]) {
@@ -66,21 +89,39 @@ pub struct WriteSink<W: Write> {
     faults: u64,
 }
 
-impl<W: Write> WriteSink<W> {
+impl<W: Write + Drop + Send> WriteSink<W> {
+    ghost use Rattle.pk_outside.specs.Real.{writer_of};
+
     /// A sink that writes to this writer. It takes no memory.
-    pub fn new(inner: W) -> Self {
+    pub fn new(inner: W) -> Self
+        ensures writer { writer_of result ≡ inner }
+        ensures sound { ⟦<WriteSink<W> as Sink>⟧.faults result ≡ 0 }
+    {
         WriteSink { inner, faults: 0 }
+    }
+
+    /// How many calls failed.
+    pub fn faults(&self) -> u64
+        ensures faults { result ≡ ⟦<WriteSink<W> as Sink>⟧.faults self.now }
+    {
+        self.faults
     }
 }
 
 impl<W: Write + Drop + Send> Sink for WriteSink<W> {
     ghost use Rattle.std.specs.Prelude.{None};
+    ghost use Rattle.pk_outside.specs.Real.{writer_of};
 
     ghost held = { λ _. None };
 
     ghost faults = { λ s. s.faults };
 
-    fn write(&mut self, bytes: &[u8]) -> Result<usize, Failed> {
+    fn write(&mut self, bytes: &[u8]) -> Result<usize, Failed>
+        requires { 0 < length bytes.now }
+        ensures bound { IfOk result (λ n. (0 < n) × (n ≤ length bytes.now)) }
+        ensures cause { HasCause self.old.faults self.new.faults result }
+        ensures through { IfOk result (λ n. Appends (W.contents (writer_of self.old)) (W.contents (writer_of self.new)) (take n bytes.now)) }
+    {
         match self.inner.write(bytes) {
             Ok(count) if count > 0 => Ok(count),
             _ => {

@@ -1,5 +1,5 @@
 -- The hexadecimal digits of a number, from the last one.
-use Rattle.std.proofs.Common.{◌≡◌, ◌≢◌, ◌++◌, [], ◌∷◌, ◌<◌, ◌-◌, ◌/◌, ◌%◌, ℕ, zero, suc, List, refl, sym, arith, append_assoc, append-nil}
+use Rattle.std.proofs.Common.{◌≡◌, ◌≢◌, ◌++◌, [], ◌∷◌, ◌-◌, ◌/◌, ◌%◌, ℕ, suc, List, refl, sym, arith, append_assoc, append-nil}
 use Rattle.authority_model.specs.Cookies.{hex, hex_digit}
 
 -- no digits are asked for

@@ -1,4 +1,3 @@
 pub mod TooLarge
 pub mod Digits
-pub mod Loads
 pub mod Orders

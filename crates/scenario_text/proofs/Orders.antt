@@ -1,8 +1,7 @@
 -- A line is read numbers first, so its fault is the first in the order of kinds.
-use Rattle.std.proofs.Common.{◌≡◌, ◌==◌, ◌||◌, ◌-◌, ◌^◌, [], ◌∷◌, List, ℕ, Bool, true, false, Option, None, Some, Result, Ok, Err, if◌then◌else◌, refl, sym, ◌∙◌, length, map, nat_lt, arith}
+use Rattle.std.proofs.Common.{◌≡◌, ◌==◌, [], ◌∷◌, List, ℕ, Bool, true, false, Option, None, Some, Result, Ok, Err, if◌then◌else◌, refl, length, map, nat_lt, arith}
 use Rattle.std.proofs.lemmas.Bool.{ne_eqb}
 use Rattle.std.specs.List.{list_any}
-use Rattle.std.specs.Str.{bytes_eq}
 use Rattle.pk_types.specs.Decimals.{decimal_up_to}
 use Rattle.pk_types.specs.Values.{implicit_of_word}
 use Rattle.pk_types.specs.declared.values.Implicit.{Implicit}
@@ -13,9 +12,9 @@ use Rattle.scenario_text.specs.declared.fault.LineKind.TheVariants as kind
 use Rattle.scenario_text.specs.declared.first_word.FirstWord.{FirstWord}
 use Rattle.scenario_text.specs.declared.first_word.FirstWord.TheVariants as first
 use Rattle.scenario_text.specs.Faults.{◌>>=◌, or_fault, fault_in}
-use Rattle.scenario_text.specs.Words.{number_in, positive, positive_in, built_implicit, implicit_in, any_text_in, text_in, id_in, no_session_in, process_subject, subject_parts, subject_in}
-use Rattle.scenario_text.specs.Lines.{first_word_of, action_line, process_line, peer_line, check_words, check_line, line_of, line_from, step_of_words, is_blank, step_of}
-use Rattle.scenario_text.specs.Order.{is_number, is_fault, kind_of_faults, faults_of, count_or_kind, word_or_kind, kind_of_words, line_kind}
+use Rattle.scenario_text.specs.Words.{number_in, positive, positive_in, built_implicit, implicit_in, text_in, id_in, no_session_in, process_subject, subject_parts, subject_in}
+use Rattle.scenario_text.specs.Lines.{first_word_of, check_words, line_of, line_from, step_of_words, is_blank, step_of}
+use Rattle.scenario_text.specs.Order.{is_number, kind_of_faults, faults_of, count_or_kind, word_or_kind, kind_of_words, line_kind}
 
 -- no fault but Number
 abbrev OnlyNumber : {A : Type 0} → Result A LineKind → Type 0

@@ -1,5 +1,6 @@
 -- The line that answers with an output.
-use Rattle.std.specs.Prelude.{ℕ, ◌-◌, ◌==◌, ◌≤◌, Bool, true, false, List, [], ◌∷◌, ◌++◌, Option, None, Some, codes, length, if◌then◌else◌}
+use Rattle.std.specs.Prelude.{true, false, ℕ, ◌-◌, ◌==◌, Bool, List, [], ◌++◌, Option, None, Some, codes, length, if◌then◌else◌, slice_get}
+use Rattle.std.specs.Option.{option_map_or}
 use Rattle.std.specs.Fmt.{decimal}
 use Rattle.authority_model.specs.declared.journal.History.{History}
 use Rattle.authority_model.specs.declared.load.Loaded.{Loaded}
@@ -38,10 +39,9 @@ verdict_text verdict =
 abbrev pub cause_text : ErrorCause → List ℕ
 cause_text cause = error_last_part cause ++ (codes " " ++ error_word cause)
 
--- how many actions the load with this number has; load 0 is empty, and the others are counted from 1
+-- How many actions the load with this number has. Loads are counted from 1, load 0 is empty, and a number of no load counts as that.
 abbrev pub action_count : List Loaded → ℕ → ℕ
-action_count [] n = 0
-action_count (loaded ∷ loads) n = if n == 1 then length loaded.policy.actions else action_count loads (n - 1)
+action_count loads n = if n == 0 then 0 else option_map_or (λ (loaded : Loaded). length loaded.policy.actions) (slice_get loads (n - 1)) 0
 
 -- the words of an answer
 abbrev pub answer_text : List Loaded → Answer → List ℕ
@@ -69,17 +69,3 @@ message_line loads to serial message.StopWanted = []
 -- the line of an output, which is the one with this serial among those to its connection
 abbrev pub answer_line : Output → History → ℕ → List ℕ
 answer_line output history serial = message_line history.loads output.to serial output.message
-
--- a load that the answer names is load 0 or one of so many
-abbrev pub AnswerNamesLoad : ℕ → Answer → Type 0
-AnswerNamesLoad loads (answer.Actions load locale) = load ≤ loads
-AnswerNamesLoad loads other = Unit {0}
-
--- a load that the message names is load 0 or one of so many
-abbrev pub MessageNamesLoad : ℕ → Message → Type 0
-MessageNamesLoad loads (message.Reply serial answer) = AnswerNamesLoad loads answer
-MessageNamesLoad loads other = Unit {0}
-
--- a load that the output names is load 0 or in the history
-abbrev pub NamesLoadOf : History → Output → Type 0
-NamesLoadOf history output = MessageNamesLoad (length history.loads) output.message

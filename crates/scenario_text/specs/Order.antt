@@ -1,5 +1,5 @@
 -- Which fault a line has, by the order of the kinds over all its words.
-use Rattle.std.specs.Prelude.{ℕ, Bool, true, false, ◌-◌, ◌^◌, nat_lt, List, [], ◌∷◌, ◌++◌, length, map, Option, None, Some, if◌then◌else◌}
+use Rattle.std.specs.Prelude.{ℕ, Bool, true, false, ◌-◌, ◌^◌, nat_lt, List, [], ◌∷◌, length, map, Option, None, Some, if◌then◌else◌}
 use Rattle.std.specs.List.{list_any}
 use Rattle.byte_pieces.specs.Pieces.{pieces_of}
 use Rattle.scenario_text.specs.declared.fault.LineKind.{LineKind}

@@ -1,9 +1,9 @@
 // The line that answers with an output.
-ghost use Rattle.std.specs.Prelude.{◌≡◌, ◌≤◌, ◌++◌, codes, length, string_bytes, IfOk};
+ghost use Rattle.std.specs.Prelude.{◌≡◌, ◌++◌, codes, length, string_bytes, IfOk};
 ghost use Rattle.std.specs.Fmt.{decimal};
 ghost use Rattle.authority_model.specs.Cookies.{cookie_text};
 ghost use Rattle.scenario_text.specs.Escapes.{escaped, identities_text};
-ghost use Rattle.scenario_text.specs.Answers.{action_count, answer_text, words_line, message_line, answer_line, AnswerNamesLoad, MessageNamesLoad, NamesLoadOf};
+ghost use Rattle.scenario_text.specs.Answers.{action_count, answer_text, words_line, message_line, answer_line};
 
 use crate::escape::{cookie_words, escaped, grants_words, identities_words};
 use crate::verdict::{cause_words, verdict_words};
@@ -11,19 +11,20 @@ use authority_model::{Answer, Cookie, History, Loaded, Message, Output};
 use pk_types::{ByteList, Identity, List, NoMemory, Text};
 use std::alloc::{AllocError, Global};
 
-/// How many actions the load with this number has.
+/// How many actions the load with this number has; 0 for load 0 and for a number of no load.
 fn action_count(loads: &[Loaded], load: u32) -> usize
-    requires { load ≤ length loads.now }
     ensures count { result ≡ action_count loads.now load }
 {
     if load == 0 {
         return 0;
     }
-    loads[load as usize - 1].policy.actions.len()
+    match loads.get(load as usize - 1) {
+        Some(loaded) => loaded.policy.actions.len(),
+        None => 0,
+    }
 }
 
 fn answer_words(alloc: Global, loads: &[Loaded], answer: &Answer) -> Result<String, AllocError>
-    requires { AnswerNamesLoad (length loads.now) answer.now }
     ensures text { IfOk result (λ text. string_bytes text ≡ answer_text loads.now answer.now) }
 {
     match answer {
@@ -88,7 +89,6 @@ fn message_text(
     serial: u32,
     message: &Message,
 ) -> Result<String, AllocError>
-    requires { MessageNamesLoad (length loads.now) message.now }
     ensures line { IfOk result (λ line. string_bytes line ≡ message_line loads.now to serial message.now) }
 {
     match message {
@@ -125,13 +125,15 @@ fn message_text(
 /// connection, counted from 1, which BeginAuthentication shows.
 ///
 /// What asks the loader for something has no bytes.
+///
+/// # Errors
+/// `NoMemory` alone.
 pub fn answer_text(
     alloc: Global,
     output: &Output,
     history: &History,
     serial: u32,
 ) -> Result<ByteList, NoMemory>
-    requires { NamesLoadOf history.now output.now }
     ensures line { IfOk result (λ line. line ≡ answer_line output.now history.now serial) }
 {
     let line = message_text(

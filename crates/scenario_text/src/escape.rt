@@ -1,6 +1,6 @@
 // Texts and numbers as an answer line writes them.
-ghost use Rattle.std.specs.Prelude.{◌≡◌, ◌<◌, ◌^◌, ◌++◌, true, string_bytes, IfOk, OnOk};
-ghost use Rattle.std.specs.Fmt.{decimal, digit_glyph};
+ghost use Rattle.std.specs.Prelude.{◌≡◌, ◌<◌, ◌++◌, true, string_bytes, IfOk, OnOk};
+ghost use Rattle.std.specs.Fmt.{digit_glyph};
 ghost use Rattle.authority_model.specs.Cookies.{hex, hex_digit, cookie_text, grant_text};
 ghost use Rattle.scenario_text.specs.Escapes.{is_plain, escape_of, escaped, identity_text, identities_text, grants_text, pair_text, pairs_text};
 

@@ -11,6 +11,8 @@ mod first_word;
 mod lines;
 mod number;
 mod step;
+#[cfg(test)]
+mod tests;
 mod verdict;
 mod words;
 

@@ -2,7 +2,7 @@
 ghost use Rattle.std.specs.Prelude.{◌≡◌, ◌≤◌, [], ◌∷◌, map, IfOk, IfErr};
 ghost use Rattle.scenario_text.specs.Faults.{Gives, IsFaultOf, fault_in};
 ghost use Rattle.scenario_text.specs.Built.{IsBuiltStep};
-ghost use Rattle.scenario_text.specs.Lines.{action_line, process_line, peer_line, check_words, check_line, line_of, step_of_words, step_of};
+ghost use Rattle.scenario_text.specs.Lines.{action_line, process_line, peer_line, check_words, check_line, line_of, step_of};
 ghost use Rattle.scenario_text.specs.Order.{line_kind};
 
 use crate::fault::{LineFault, LineKind};
@@ -188,10 +188,12 @@ fn step_of_line(alloc: Global, line: &[u8]) -> Result<Step, LineKind>
 /// What a line says, or what is wrong with it. The line is given without the LF that ends it, and
 /// `number` is its number, which a fault carries.
 ///
-/// Every line in the grammar is read, unless memory is refused, which is the kind `NoMemory`. Of
-/// another line the fault is the first kind of the whole line: a number out of its form comes
-/// before an earlier word out of its form.
-
+/// Every line in the grammar is read, unless memory is refused.
+///
+/// # Errors
+/// The fault of a line is the first kind that the whole line has, in the order of [`LineKind`]: a
+/// number out of its range comes before an earlier word out of its form. `NoMemory` says nothing
+/// of the line.
 #[tactic(auto, using(crate::proofs::Orders::step_order))]
 pub fn read_line(alloc: Global, bytes: &[u8], number: u64) -> Result<Step, LineFault>
     ensures step { IfOk result (λ step. step_of bytes.now ≡ Ok step) }

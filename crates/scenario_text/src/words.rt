@@ -1,7 +1,7 @@
 // The words of a line, each read by itself.
 ghost use Rattle.std.specs.Prelude.{◌≡◌, ◌≤◌, ◌^◌, ◌-◌, [], ◌∷◌, map, IfOk};
 ghost use Rattle.scenario_text.specs.Faults.{Gives};
-ghost use Rattle.scenario_text.specs.Words.{number_in, positive_in, implicit_in, any_text_in, text_in, id_in, no_session_in, process_subject, subject_parts, subject_in};
+ghost use Rattle.scenario_text.specs.Words.{number_in, positive_in, implicit_in, any_text_in, text_in, id_in, no_session_in, subject_parts, subject_in};
 
 use crate::fault::LineKind;
 use crate::number::number;

@@ -23,7 +23,7 @@ pub struct ByteSource {
 }
 
 impl ByteSource {
-    ghost use Rattle.pk_outside.specs.Held.{source_left, source_calls};
+    ghost use Rattle.pk_outside.specs.Held.{source_left, source_bytes, source_calls};
 
     /// A source of these bytes, at most `piece` of them in a call. The calls with the numbers in
     /// `failing` fail; the first call has the number 1.
@@ -31,6 +31,7 @@ impl ByteSource {
         requires some { 0 < piece }
         requires size { vec_len bytes ≤ 2 ^ 62 }
         ensures left { source_left result ≡ bytes.items }
+        ensures bytes { source_bytes result ≡ bytes.items }
         ensures calls { source_calls result ≡ record { made = 0; faults = 0; failing = failing.items } }
     {
         ByteSource {

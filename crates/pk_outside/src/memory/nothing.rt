@@ -117,7 +117,10 @@ impl Door for ListDoor {
 
     ghost faults = { λ _. 0 };
 
-    fn accept(&mut self) -> Accepted<ByteLink> {
+    fn accept(&mut self) -> Accepted<ByteLink>
+        ensures closed { result ≡ Accepted.Closed }
+        ensures owner { self.new.uid ≡ self.old.uid }
+    {
         Accepted::Closed
     }
 
@@ -171,8 +174,17 @@ pub struct ListStation {
 
 impl ListStation {
     /// It takes no memory.
-    pub fn new() -> Self {
+    pub fn new() -> Self
+        ensures sound { ⟦<ListStation as Station>⟧.faults result ≡ 0 }
+    {
         ListStation { faults: 0 }
+    }
+
+    /// How many faults it counted.
+    pub fn faults(&self) -> u64
+        ensures faults { result ≡ ⟦<ListStation as Station>⟧.faults self.now }
+    {
+        self.faults
     }
 }
 

@@ -80,7 +80,10 @@ impl Sink for SureSink {
 
     ghost faults = { λ _. 0 };
 
-    fn write(&mut self, bytes: &[u8]) -> Result<usize, Failed> {
+    fn write(&mut self, bytes: &[u8]) -> Result<usize, Failed>
+        requires { 0 < length bytes.now }
+        ensures all { result ≡ Ok (length bytes.now) }
+    {
         Ok(bytes.len())
     }
 }

@@ -1,4 +1,4 @@
-use Rattle.std.proofs.Common.{List, ℕ, arith, ap, subst, length, sym}
+use Rattle.std.proofs.Common.{List, ℕ, arith, subst, sym}
 use Rattle.pk_outside.specs.Streams.{Gave}
 use Rattle.line_reader.proofs.Takings.{front_of_buffer}
 use Rattle.line_reader.proofs.reader.LineReader.refill.Goals as goal

@@ -1,4 +1,4 @@
-use Rattle.std.proofs.Common.{◌∙◌, ap, take, drop, length, arith}
+use Rattle.std.proofs.Common.{◌∙◌, ap, take, drop, arith}
 use Rattle.line_reader.proofs.Takings.{piece_ended, cut_shorter}
 use Rattle.line_reader.proofs.reader.LineReader.take_piece.Goals as goal
 

@@ -1,0 +1,11 @@
+-- What a pass stands for.
+use Rattle.std.specs.Prelude.{ℕ, List}
+
+-- What a pass stands for. Its history is a beginning of the lock's, as long as the pass has learned of it.
+pub record Known (I : Type 0) : Type 0 where
+  -- the number of its caller
+  pub number : ℕ
+  -- the entries that it knows, the oldest first
+  pub history : List I
+  -- how many passes it knows to be made
+  pub made : ℕ

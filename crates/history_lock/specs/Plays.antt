@@ -1,0 +1,14 @@
+-- What a step at the word tells its seat.
+use Rattle.std.specs.Prelude.{◌≡◌, ℕ, List, [], ◌∷◌, ◌++◌}
+use Rattle.atomic_table.specs.Table.{Step, Me}
+use Rattle.history_lock.specs.declared.view.View.{View}
+use Rattle.history_lock.specs.Rule.{IsTold}
+use Rattle.history_lock.specs.Kinds.{appended}
+
+-- A read changes no view, and tells what the rule says of the seat's own.
+abbrev pub Told : {S I : Type 0} → (I → ℕ) → (List I → Type 0) → Step S → Me S (View I) → ℕ → Me S (View I) → Type 0
+Told caller_of Legal step me found after = (after ≡ me) × IsTold caller_of Legal me.0
+
+-- An append puts some entry behind the book's history, which then is the list that is written.
+abbrev pub Appended : {S I : Type 0} → (I → ℕ) → List I → Step S → Me S (View I) → ℕ → Me S (View I) → Type 0
+Appended {S} {I} caller_of written step me found after = (e : I) × (written ≡ me.0.history ++ e ∷ []) × (after ≡ (appended caller_of me.0 e, me.1))

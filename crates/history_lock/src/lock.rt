@@ -1,0 +1,187 @@
+// The lock.
+ghost use Rattle.std.specs.Prelude.{max, ◌≡◌, List, [], IfOk, IfErr, IsOk};
+ghost use mathlib.Core.List.{IsPrefix};
+ghost use Rattle.history_lock.specs.Kinds.{longer_of};
+ghost use Rattle.history_lock.specs.Calls.{Learned, Answered, Refused, Admitted, NoneAdmitted};
+
+use crate::locked::{Locked, settle_receipt, take_note_of_pass};
+use crate::machine::{EndCause, Machine};
+use crate::pass::{Pass, TableName};
+use crate::refused::{AdmitRefused, CallRefused};
+use crate::steps;
+use crate::view::{LockSeat, LockTable};
+use pk_types::NoMemory;
+use std::alloc::Global;
+use std::marker::{Model, PhantomData};
+use std::sync::{Condvar, Mutex, Wait};
+
+/// A table that was just opened, for one lock. Contracts see its name.
+#[derive(Drop)]
+pub struct Opened<M: Machine> {
+    table: LockTable<M>,
+    book: LockSeat<M>,
+}
+
+impl<M: Machine> Model for Opened<M> {
+    ghost use Rattle.std.specs.Prelude.{◌≡◌, []};
+    ghost use Rattle.atomic_table.specs.Seated.{TableId, table_id_coded};
+    ghost use Rattle.history_lock.specs.Rule.{opened};
+
+    ghost Value = { TableId };
+
+    ghost coded = { table_id_coded };
+
+    ghost view = { λ o. o.table.shared.table_id };
+
+    ghost invariant = { λ o. (o.table.shared.table_id.words ≡ 1)
+        × (o.book.table_id ≡ o.table.shared.table_id)
+        × (o.book.me ≡ (opened, [])) };
+}
+
+/// Opens the table of a lock. Its name is picked next, and then the lock starts with it.
+pub fn open_table<M: Machine>(alloc: Global) -> Result<Opened<M>, NoMemory>
+    ensures { IfOk result (λ opened. opened.words ≡ 1) }
+{
+    let (table, book) = steps::open::<M>(alloc)?;
+    Ok(Opened { table, book })
+}
+
+/// A machine under a lock, whose history the passes know. `T` is the name of the lock's table, so that a pass fits the lock that made it and no other.
+///
+/// No clause speaks of waiting: a call that waits for the lock, or for an operation to be ready, returns only if other callers do their part.
+#[derive(Drop)]
+pub struct HistoryLock<M: Machine, T: TableName> {
+    table: LockTable<M>,
+    locked: Mutex<Locked<M, T>>,
+    turn: Condvar,
+    ghost named: { table.shared.table_id ≡ T.table },
+    ghost one_word: { table.shared.table_id.words ≡ 1 },
+}
+
+impl<M: Machine, T: TableName> HistoryLock<M, T> {
+    /// Puts a machine with no entry under a lock, and makes the first pass, whose number is 0. It takes no memory, so the answer is always Ok.
+    pub fn start(machine: M, opened: Opened<M>) -> Result<(HistoryLock<M, T>, Pass<M, T>), NoMemory>
+        requires machine { M.entries machine ≡ [] }
+        requires table { opened ≡ T.table }
+        ensures starts { IsOk result }
+        ensures first { IfOk result (λ r. (r.1.number ≡ 0) × (r.1.history ≡ []) × (r.1.made ≡ 1)) }
+    {
+        let Opened { table, mut book } = opened;
+        let seat = steps::admit(&table, &mut book);
+        let locked = Locked {
+            machine,
+            made: 1,
+            cause: None,
+            book,
+            of: PhantomData,
+        };
+        let pass = Pass {
+            number: 0,
+            seat,
+            of: PhantomData,
+        };
+        let lock = HistoryLock {
+            table,
+            locked: Mutex::new(locked),
+            turn: Condvar::new(),
+        };
+        Ok((lock, pass))
+    }
+
+    /// Makes a new pass, with the next number. It is new: it is none of those that the old pass knew, and no entry has it. Both passes know the same then. It takes the lock and no memory.
+    ///
+    /// Full exactly where all 1,048,576 passes were made.
+    pub fn admit<R: Wait>(&self, rt: &R, pass: &mut Pass<M, T>) -> Result<Pass<M, T>, AdmitRefused>
+        ensures ok { IfOk result (λ new. Admitted M.caller_of M.legal pass.old new pass.new) }
+        ensures full { IfErr result (λ r. NoneAdmitted M.caller_of M.legal pass.old r pass.new) }
+    {
+        self.locked.lock(rt).admit(&self.table, pass)
+    }
+
+    /// Calls the machine, with an operation that is ready in every state. On Ok the pass's history has grown by entries of others and then by the one that this call made; the reply is the machine's after the entries before it. The lock itself takes no memory.
+    ///
+    /// Ended where `end` was called before, with the kept cause, which fits what the pass then knows; Machine exactly where the machine refuses after the history that the pass then knows. A refused call adds no entry.
+    pub fn call<R: Wait>(
+        &self,
+        rt: &R,
+        pass: &mut Pass<M, T>,
+        op: M::Op,
+    ) -> Result<M::Reply, CallRefused<M::Op, M::Refusal>>
+        requires { (list : List M.Item) → M.legal list → M.is_ready pass.old.number op list }
+        ensures ok { IfOk result (λ reply.
+            Answered M.caller_of M.legal M.is_ready M.gives pass.old op reply pass.new) }
+        ensures err { IfErr result (λ r.
+            Refused M.caller_of M.legal M.refuses M.fits pass.old op r pass.new) }
+    {
+        let answer = self.locked.lock(rt).call(&self.table, pass, op);
+        self.turn.notify_all();
+        answer
+    }
+
+    /// Waits until the operation is ready or the lock has ended, and then is as `call`.
+    pub fn call_when_ready<R: Wait>(
+        &self,
+        rt: &R,
+        pass: &mut Pass<M, T>,
+        op: M::Op,
+    ) -> Result<M::Reply, CallRefused<M::Op, M::Refusal>>
+        ensures ok { IfOk result (λ reply.
+            Answered M.caller_of M.legal M.is_ready M.gives pass.old op reply pass.new) }
+        ensures err { IfErr result (λ r.
+            Refused M.caller_of M.legal M.refuses M.fits pass.old op r pass.new) }
+    {
+        let number = pass.number();
+        let mut locked = self
+            .turn
+            .wait_while(rt, self.locked.lock(rt), |l| l.waits(number, &op));
+        let answer = locked.call(&self.table, pass, op);
+        drop(locked);
+        self.turn.notify_all();
+        answer
+    }
+
+    /// Ends the lock by a cause that fits what the pass knows. The first cause is kept, and the answer is the kept one, which fits what the pass then knows. It takes no memory.
+    pub fn end<R: Wait>(&self, rt: &R, pass: &mut Pass<M, T>, cause: EndCause) -> EndCause
+        requires { M.fits cause pass.old.history pass.old.made }
+        ensures fits { M.fits result pass.new.history pass.new.made }
+        ensures learned { Learned M.caller_of M.legal pass.old pass.new }
+    {
+        let kept = self.locked.lock(rt).end(&self.table, pass, cause);
+        self.turn.notify_all();
+        kept
+    }
+
+    /// Two passes tell each other what they know. Both know the longer of the two histories then, of which the other is a beginning, and neither has an entry more of its own. It takes neither the lock nor memory.
+    pub fn meet(&self, first: &mut Pass<M, T>, second: &mut Pass<M, T>)
+        ensures equal { (first.new.history ≡ second.new.history) × (first.new.made ≡ second.new.made) }
+        ensures longer { first.new.history ≡ longer_of second.old.history first.old.history }
+        ensures made { first.new.made ≡ max first.old.made second.old.made }
+        ensures first { Learned M.caller_of M.legal first.old first.new }
+        ensures second { Learned M.caller_of M.legal second.old second.new }
+    {
+        take_note_of_pass(&self.table, second, first);
+        take_note_of_pass(&self.table, first, second);
+    }
+
+    /// Ends the lock's life and gives the machine back. Its entries are legal, and begin with all that the pass had seen. It takes no memory.
+    pub fn close(self, pass: Pass<M, T>) -> M
+        ensures begins { IsPrefix pass.history (M.entries result) }
+        ensures legal { M.legal (M.entries result) }
+    {
+        let HistoryLock {
+            table,
+            locked,
+            turn: _,
+        } = self;
+        let Locked {
+            machine,
+            made: _,
+            cause: _,
+            mut book,
+            of: _,
+        } = locked.into_inner();
+        let mut pass = pass;
+        settle_receipt(&table, &mut book, &mut pass);
+        machine
+    }
+}

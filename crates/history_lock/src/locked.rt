@@ -1,0 +1,216 @@
+// The value under the lock, and what a call does while it holds it.
+ghost use Rattle.std.specs.Prelude.{max, ◌≡◌, ℕ, suc, ◌+◌, ◌<◌, ◌≤◌, ◌⊎◌, List, [], length, None, Some, IfOk, IfErr, MatchResult, MatchOption, IsSome, true, false};
+ghost use mathlib.Core.List.{IsPrefix};
+ghost use Rattle.history_lock.specs.declared.view.Kind.TheVariants.{Book};
+ghost use Rattle.history_lock.specs.Entries.{CallersBelow, OwnBelow, OwnBelowOrLast};
+ghost use Rattle.history_lock.specs.Names.{IsNamed};
+ghost use Rattle.history_lock.specs.Kinds.{longer_of};
+ghost use Rattle.history_lock.specs.Calls.{Learned, Answered, Refused, IsEndedBy, Admitted, NoneAdmitted};
+
+use crate::machine::{EndCause, Machine};
+use crate::pass::{Pass, TableName};
+use crate::refused::{AdmitRefused, CallRefused};
+use crate::steps;
+use crate::view::{LockSeat, LockTable};
+use std::marker::{Brand, Model, PhantomData};
+
+/// How many passes a lock has.
+const MOST_PASSES: u32 = 1_048_576;
+
+/// What lies under the lock: the machine, and the book's seat, which knows the whole history. Contracts see the machine's entries, how many passes were made, and the kept cause.
+#[derive(Drop)]
+pub struct Locked<M: Machine, T: TableName> {
+    pub(crate) machine: M,
+    pub(crate) made: u32,
+    pub(crate) cause: Option<EndCause>,
+    pub(crate) book: LockSeat<M>,
+    pub(crate) of: PhantomData<T>,
+}
+
+impl<M: Machine, T: TableName> Model for Locked<M, T> {
+    ghost use Rattle.std.specs.Prelude.{◌≡◌, ◌≤◌, ℕ, List, Option};
+    ghost use Rattle.history_lock.specs.declared.machine.EndCause.{EndCause};
+    ghost use Rattle.history_lock.specs.Calls.{IsBook, CauseFits};
+
+    ghost Value = { List M.Item × ℕ × Option EndCause };
+
+    ghost view = { λ l. (M.entries l.machine, l.made, l.cause) };
+
+    ghost invariant = { λ l. (l.book.table_id ≡ T.table)
+        × IsBook l.book.me.0 (M.entries l.machine) l.made
+        × (l.made ≤ 1048576)
+        × CauseFits M.fits l.cause (M.entries l.machine) l.made };
+}
+
+/// The book settles a receipt of the pass and reads, so it learns that the pass's history begins its own.
+pub fn settle_receipt<M: Machine, T: TableName>(
+    table: &LockTable<M>,
+    book: &mut LockSeat<M>,
+    pass: &mut Pass<M, T>,
+)
+    requires table { IsNamed table.now.shared.table_id T.table }
+    requires seat { book.old.table_id ≡ T.table }
+    requires book { book.old.me.0.kind ≡ Book }
+    ensures seat { (book.new.table_id ≡ T.table) × (book.new.me.0.kind ≡ Book) }
+    ensures book_history { book.new.me.0.history ≡ book.old.me.0.history }
+    ensures book_made { book.new.me.0.made ≡ book.old.me.0.made }
+    ensures idle { book.old.me.0.in_flight ≡ None → book.new.me.0.in_flight ≡ None }
+    ensures lands { book.old.me.0.in_flight ≡ Some pass.old.number
+        → pass.old.history ≡ book.old.me.0.history
+        → book.new.me.0.in_flight ≡ None }
+    ensures pass { pass.new ≡ pass.old }
+    ensures begins { IsPrefix pass.old.history book.old.me.0.history }
+    ensures made { pass.old.made ≤ book.old.me.0.made }
+    ensures top { book.old.me.0.made ≤ 1048576 }
+    ensures number { pass.old.number < pass.old.made }
+    ensures legal { M.legal book.old.me.0.history }
+    ensures callers { CallersBelow M.caller_of book.old.me.0.history book.old.me.0.made }
+{
+    let token = steps::receipt(table, &mut pass.seat);
+    steps::settle(table, book, token);
+    steps::read(table, book);
+}
+
+/// The pass takes a note of the book and reads, so it learns the book's history, and which entries of it are its own.
+pub fn take_note_of_book<M: Machine, T: TableName>(
+    table: &LockTable<M>,
+    book: &mut LockSeat<M>,
+    pass: &mut Pass<M, T>,
+)
+    requires table { IsNamed table.now.shared.table_id T.table }
+    requires seat { book.old.table_id ≡ T.table }
+    requires begins { IsPrefix pass.old.history book.old.me.0.history }
+    requires counted { pass.old.made ≤ book.old.me.0.made }
+    requires names { (book.old.me.0.in_flight ≡ None)
+        ⊎ (book.old.me.0.in_flight ≡ Some pass.old.number) }
+    ensures book { (book.new.table_id ≡ T.table) × (book.new.me ≡ book.old.me) }
+    ensures history { pass.new.history ≡ book.old.me.0.history }
+    ensures made { pass.new.made ≡ book.old.me.0.made }
+    ensures number { pass.new.number ≡ pass.old.number }
+    ensures legal { M.legal pass.new.history }
+    ensures own { OwnBelowOrLast M.caller_of pass.old.number book.old.me.0.history
+        (length pass.old.history) book.old.me.0.in_flight (length book.old.me.0.history) }
+{
+    let note = steps::note(table, book);
+    steps::take(table, &mut pass.seat, note);
+    steps::read(table, &mut pass.seat);
+}
+
+/// One pass takes a note of another and reads, so it learns what the other knows.
+pub fn take_note_of_pass<M: Machine, T: TableName>(
+    table: &LockTable<M>,
+    to: &mut Pass<M, T>,
+    from: &mut Pass<M, T>,
+)
+    requires table { IsNamed table.now.shared.table_id T.table }
+    ensures from { from.new ≡ from.old }
+    ensures longer { to.new.history ≡ longer_of to.old.history from.old.history }
+    ensures made { to.new.made ≡ max to.old.made from.old.made }
+    ensures begins { IsPrefix to.old.history to.new.history }
+    ensures covers { IsPrefix from.old.history to.new.history }
+    ensures number { to.new.number ≡ to.old.number }
+    ensures legal { M.legal to.new.history }
+    ensures own { OwnBelow M.caller_of to.old.number to.new.history (length to.old.history) }
+{
+    let note = steps::note(table, &mut from.seat);
+    steps::take(table, &mut to.seat, note);
+    steps::read(table, &mut to.seat);
+}
+
+impl<M: Machine, T: TableName> Locked<M, T> {
+    /// Calls the machine for the pass, unless the lock has ended.
+    pub fn call(
+        &mut self,
+        table: &LockTable<M>,
+        pass: &mut Pass<M, T>,
+        op: M::Op,
+    ) -> Result<M::Reply, CallRefused<M::Op, M::Refusal>>
+        requires table { IsNamed table.now.shared.table_id T.table }
+        requires turn { IsSome self.old.2
+            ⊎ (M.legal self.old.0 → M.is_ready pass.old.number op self.old.0) }
+        ensures ok { IfOk result (λ reply.
+            Answered M.caller_of M.legal M.is_ready M.gives pass.old op reply pass.new) }
+        ensures err { IfErr result (λ r.
+            Refused M.caller_of M.legal M.refuses M.fits pass.old op r pass.new) }
+        ensures whole { pass.new.history ≡ self.new.0 }
+        ensures not_ended { IfOk result (λ _. self.old.2 ≡ None) }
+        ensures refused { IfErr result (λ r. (self.new.0 ≡ self.old.0) × IsEndedBy r self.old.2) }
+        ensures rest { (self.new.1 ≡ self.old.1) × (self.new.2 ≡ self.old.2) }
+    {
+        settle_receipt(table, &mut self.book, pass);
+        if let Some(cause) = self.cause {
+            take_note_of_book(table, &mut self.book, pass);
+            return Err(CallRefused::Ended { cause, op });
+        }
+        match self.machine.apply(pass.number(), op) {
+            Ok(reply) => {
+                steps::append::<M, Brand>(table, &mut self.book, &self.machine);
+                take_note_of_book(table, &mut self.book, pass);
+                settle_receipt(table, &mut self.book, pass);
+                Ok(reply)
+            }
+            Err((refusal, op)) => {
+                take_note_of_book(table, &mut self.book, pass); // what it is refused after
+                Err(CallRefused::Machine { refusal, op })
+            }
+        }
+    }
+
+    /// Whether a call has to wait: the lock has not ended, and the operation is not ready.
+    pub fn waits(&self, caller: u32, op: &M::Op) -> bool
+        ensures goes { result ≡ false → IsSome self.now.2 ⊎ M.is_ready caller op.now self.now.0 }
+        ensures waits { result ≡ true → (self.now.2 ≡ None) × ¬ M.is_ready caller op.now self.now.0 }
+    {
+        self.cause.is_none() && !self.machine.ready(caller, op)
+    }
+
+    /// Makes a new pass, which knows the whole history. The old pass then knows it too.
+    pub fn admit(
+        &mut self,
+        table: &LockTable<M>,
+        pass: &mut Pass<M, T>,
+    ) -> Result<Pass<M, T>, AdmitRefused>
+        requires { IsNamed table.now.shared.table_id T.table }
+        ensures ok { IfOk result (λ new. Admitted M.caller_of M.legal pass.old new pass.new) }
+        ensures full { IfErr result (λ r. NoneAdmitted M.caller_of M.legal pass.old r pass.new) }
+        ensures made { IfOk result (λ new. (new.number ≡ self.old.1) × (self.new.1 ≡ self.old.1 + 1)) }
+        ensures only_full { IfErr result (λ _. (self.old.1 ≡ 1048576) × (self.new.1 ≡ self.old.1)) }
+        ensures whole { pass.new.history ≡ self.old.0 }
+        ensures rest { (self.new.0 ≡ self.old.0) × (self.new.2 ≡ self.old.2) }
+    {
+        settle_receipt(table, &mut self.book, pass);
+        if self.made >= MOST_PASSES {
+            take_note_of_book(table, &mut self.book, pass);
+            return Err(AdmitRefused::Full {
+                admitted: self.made,
+            });
+        }
+        let number = self.made;
+        let seat = steps::admit(table, &mut self.book);
+        self.made += 1;
+        take_note_of_book(table, &mut self.book, pass);
+        Ok(Pass {
+            number,
+            seat,
+            of: PhantomData,
+        })
+    }
+
+    /// Keeps the cause, unless one is kept already, and answers the kept one.
+    pub fn end(&mut self, table: &LockTable<M>, pass: &mut Pass<M, T>, cause: EndCause) -> EndCause
+        requires table { IsNamed table.now.shared.table_id T.table }
+        requires fits { M.fits cause pass.old.history pass.old.made }
+        ensures fits { M.fits result pass.new.history pass.new.made }
+        ensures learned { Learned M.caller_of M.legal pass.old pass.new }
+        ensures kept { self.new.2 ≡ Some result }
+        ensures first { MatchOption self.old.2 (result ≡ cause) (λ first. result ≡ first) }
+        ensures whole { pass.new.history ≡ self.old.0 }
+        ensures rest { (self.new.0 ≡ self.old.0) × (self.new.1 ≡ self.old.1) }
+    {
+        settle_receipt(table, &mut self.book, pass);
+        let kept = self.cause.unwrap_or(cause);
+        self.cause = Some(kept);
+        take_note_of_book(table, &mut self.book, pass);
+        kept
+    }
+}

@@ -1,0 +1,58 @@
+// A pass, which is a caller's seat at the table.
+ghost use Rattle.std.specs.Prelude.{◌≡◌, ◌<◌, ◌≤◌};
+
+use crate::machine::Machine;
+use crate::view::LockSeat;
+use std::marker::{Brand, Model, PhantomData};
+
+/// Which table it is. A program picks the name of each table that it opens once, by a call of a function that is generic in the name.
+pub trait TableName {
+    ghost use Rattle.atomic_table.specs.Seated.{TableId};
+
+    /// The table.
+    ghost table: { TableId };
+}
+
+impl TableName for Brand {
+    ghost use Rattle.history_lock.specs.Names.{no_table};
+
+    ghost table = { no_table };
+}
+
+/// A caller of the lock whose table is named `T`. Contracts see its number, the history that it knows, and how many passes it knows to be made.
+#[derive(Drop)]
+pub struct Pass<M: Machine, T: TableName> {
+    pub(crate) number: u32,
+    pub(crate) seat: LockSeat<M>,
+    pub(crate) of: PhantomData<(M, T)>,
+}
+
+impl<M: Machine, T: TableName> Model for Pass<M, T> {
+    ghost use Rattle.std.specs.Prelude.{◌≡◌, None, ◌<◌, ◌≤◌};
+    ghost use Rattle.history_lock.specs.Known.{Known};
+    ghost use Rattle.history_lock.specs.declared.view.Kind.TheVariants.{Caller};
+
+    ghost Value = { Known M.Item };
+
+    ghost view = { λ p. record { number = p.number; history = p.seat.me.0.history; made = p.seat.me.0.made } };
+
+    ghost invariant = { λ p. (p.seat.table_id ≡ T.table)
+        × (p.seat.me.0.kind ≡ Caller)
+        × (p.seat.me.0.in_flight ≡ None)
+        × (p.seat.me.0.number ≡ p.number)
+        × (p.number < p.seat.me.0.made)
+        × (p.seat.me.0.made ≤ 1048576)
+        × M.legal p.seat.me.0.history };
+}
+
+impl<M: Machine, T: TableName> Pass<M, T> {
+    /// The caller's number, below 1,048,576. It takes no memory.
+    pub fn number(&self) -> u32
+        ensures number { result ≡ self.now.number }
+        ensures below { result < self.now.made }
+        ensures top { self.now.made ≤ 1048576 }
+        ensures legal { M.legal self.now.history }
+    {
+        self.number
+    }
+}

@@ -1,0 +1,5 @@
+pub mod UidDigits
+pub mod Fronts
+pub mod Texts
+pub mod Steps
+pub mod Runs

@@ -1,0 +1,164 @@
+// Each public call once. The bytes that are wanted were written by hand.
+use crate::{
+    Accepted, ByteLink, ByteSink, ByteSource, Clock, Door, Failed, FileBytes, Link, ListStation,
+    ListTree, Names, ReadSource, Salt, Sink, Source, Station, SureSink, SureSource, SureTree, Tree,
+    WriteSink, write_all,
+};
+use pk_types::Text;
+use std::alloc::{AllocError, Global};
+use std::io;
+use std::test::Fail;
+
+#[test]
+fn source_gives_its_bytes_in_pieces(rt: HostRuntime) -> Result<(), Fail> {
+    let alloc = rt.alloc();
+    let mut source = ByteSource::new(b"abc".to_vec(alloc)?, 1, vec![in alloc; 2]?);
+    let mut buffer = [0u8; 4];
+    assert_eq!(rt; source.read(&mut buffer), Ok(1));
+    assert_eq!(rt; source.read(&mut buffer), Err(Failed));
+    assert_eq!(rt; source.faults(), 1);
+    assert_eq!(rt; buffer, [b'a', 0, 0, 0]);
+    assert_eq!(rt; source.read(&mut buffer), Ok(1));
+    assert_eq!(rt; buffer, [b'b', 0, 0, 0]);
+    assert_eq!(rt; source.read(&mut buffer), Ok(1));
+    assert_eq!(rt; source.read(&mut buffer), Ok(0));
+    assert_eq!(rt; source.faults(), 1);
+    let mut sure = SureSource::new(b"abc".to_vec(alloc)?, 2);
+    assert_eq!(rt; sure.read(&mut buffer), Ok(2));
+    assert_eq!(rt; sure.read(&mut buffer), Ok(1));
+    assert_eq!(rt; buffer, [b'c', b'b', 0, 0]);
+    Ok(())
+}
+
+#[test]
+fn full_sink_counts_each_fault(rt: HostRuntime) -> Result<(), Fail> {
+    let alloc = rt.alloc();
+    let mut sink = ByteSink::new(alloc, 5, 2, vec![in alloc; 4]?)?;
+    assert_eq!(rt; write_all(&mut sink, b"abc"), Ok(()));
+    assert_eq!(rt; sink.bytes(), b"abc".as_slice());
+    assert_eq!(rt; write_all(&mut sink, b"def"), Err(Failed));
+    assert_eq!(rt; sink.bytes(), b"abcde".as_slice());
+    assert_eq!(rt; sink.write(b"f"), Err(Failed));
+    assert_eq!(rt; sink.write(b"f"), Err(Failed));
+    assert_eq!(rt; sink.faults(), 3);
+    let mut sure = SureSink::new();
+    assert_eq!(rt; sure.write(b"abc"), Ok(3));
+    Ok(())
+}
+
+fn path(alloc: Global) -> Result<Text, Fail> {
+    Ok(Text::try_from_bytes(alloc, b"/u")?)
+}
+
+#[test]
+fn trees_in_memory_hold_nothing(rt: HostRuntime) -> Result<(), Fail> {
+    let path = path(rt.alloc())?;
+    let mut tree = ListTree::new();
+    assert!(rt; matches!(tree.names(&path), Ok(Names::Absent)));
+    assert!(rt; matches!(tree.read(&path, 9), Ok(FileBytes::Absent)));
+    Ok(())
+}
+
+#[test]
+fn sure_tree_holds_nothing(rt: HostRuntime) -> Result<(), Fail> {
+    let path = path(rt.alloc())?;
+    let mut tree = SureTree::new();
+    assert!(rt; matches!(tree.names(&path), Ok(Names::Absent)));
+    assert!(rt; matches!(tree.read(&path, 9), Ok(FileBytes::Absent)));
+    Ok(())
+}
+
+/// A link with the bytes `ab` whose reads with these numbers fail.
+fn link(alloc: Global, failing: Vec<u64>) -> Result<ByteLink, AllocError> {
+    let input = ByteSource::new(b"ab".to_vec(alloc)?, 9, failing);
+    let output = ByteSink::new(alloc, 9, 9, Vec::new(alloc)).map_err(|_| AllocError)?;
+    Ok(ByteLink::new(input, output))
+}
+
+#[test]
+fn door_in_memory_is_closed(rt: HostRuntime) -> Result<(), Fail> {
+    let alloc = rt.alloc();
+    let path = path(alloc)?;
+    let mut station = ListStation::new();
+    let Ok(mut door) = station.door(7, &path, 0) else {
+        return Ok(());
+    };
+    assert_eq!(rt; door.uid(), 7);
+    assert!(rt; matches!(door.accept(), Accepted::Closed));
+    let mut ends = link(alloc, Vec::new(alloc))?.split();
+    let mut buffer = [0u8; 4];
+    assert_eq!(rt; ends.input.read(&mut buffer), Ok(2));
+    assert_eq!(rt; ends.output.write(b"c"), Ok(1));
+    door.back(ends);
+    let clock = station.clock();
+    let salt = station.salt();
+    station.shut(door, clock, salt);
+    assert_eq!(rt; station.faults(), 0);
+    Ok(())
+}
+
+#[test]
+fn station_in_memory_counts_its_faults(rt: HostRuntime) -> Result<(), Fail> {
+    let alloc = rt.alloc();
+    let path = path(alloc)?;
+    let mut station = ListStation::new();
+    assert!(rt; station.dial(&path).is_err());
+    assert_eq!(rt; station.faults(), 1);
+    let mut ends = link(alloc, vec![in alloc; 1]?)?.split();
+    let mut buffer = [0u8; 4];
+    assert_eq!(rt; ends.input.read(&mut buffer), Err(Failed));
+    station.hang(ends);
+    assert_eq!(rt; station.faults(), 2);
+    Ok(())
+}
+
+#[test]
+fn clock_and_salt_in_memory_give_0(rt: HostRuntime) {
+    let mut station = ListStation::new();
+    assert_eq!(rt; station.clock().now(), 0);
+    assert_eq!(rt; station.salt().word(), 0);
+}
+
+/// A reader and a writer that always fail.
+#[derive(Drop)]
+struct Broken;
+
+impl io::Read for Broken {
+    fn read(&mut self, _buffer: &mut [u8]) -> io::Result<usize> {
+        Err(io::Error::from(io::ErrorKind::Other))
+    }
+}
+
+impl io::Write for Broken {
+    fn write(&mut self, _bytes: &[u8]) -> io::Result<usize> {
+        Err(io::Error::from(io::ErrorKind::Other))
+    }
+
+    fn flush(&mut self) -> io::Result<()> {
+        Ok(())
+    }
+}
+
+#[test]
+fn real_source_reads_to_its_end(rt: HostRuntime) {
+    let mut source = ReadSource::new(b"abc".as_slice());
+    let mut buffer = [0u8; 2];
+    assert_eq!(rt; source.read(&mut buffer), Ok(2));
+    assert_eq!(rt; buffer, *b"ab");
+    assert_eq!(rt; source.read(&mut buffer), Ok(1));
+    assert_eq!(rt; source.read(&mut buffer), Ok(0));
+    assert_eq!(rt; source.faults(), 0);
+    let mut broken = ReadSource::new(Broken);
+    assert_eq!(rt; broken.read(&mut buffer), Err(Failed));
+    assert_eq!(rt; broken.faults(), 1);
+}
+
+#[test]
+fn real_sink_writes_to_standard_output(rt: HostRuntime) {
+    let mut sink = WriteSink::new(io::writer(&rt));
+    assert_eq!(rt; write_all(&mut sink, b"written\n"), Ok(()));
+    assert_eq!(rt; sink.faults(), 0);
+    let mut broken = WriteSink::new(Broken);
+    assert_eq!(rt; broken.write(b"a"), Err(Failed));
+    assert_eq!(rt; broken.faults(), 1);
+}

@@ -1,0 +1,72 @@
+-- A run of lines only adds items.
+use Rattle.std.proofs.Common.{◌≡◌, ◌+◌, ◌++◌, [], ◌∷◌, List, ℕ, Bool, true, false, Result, Ok, Err, if◌then◌else◌, refl, sym, ◌∙◌, ap, subst, append_assoc}
+use Rattle.authority_model.specs.declared.event.Event.{Event}
+use Rattle.authority_model.specs.declared.journal.Item.{Item}
+use Rattle.authority_model.specs.declared.load.Loaded.{Loaded}
+use Rattle.authority_model.specs.declared.policy.Action.{Action}
+use Rattle.authority_model.specs.declared.world.Process.{Process}
+use Rattle.authority_model.specs.Given.{next, event_given, load_given}
+use Rattle.scenario_text.specs.declared.fault.LineKind.{LineKind}
+use Rattle.scenario_text.specs.declared.fault.LineKind.TheVariants as kind
+use Rattle.scenario_text.specs.declared.step.Step.{Step}
+use Rattle.scenario_text.specs.declared.step.Step.TheVariants as step
+use Rattle.scenario_text.specs.Faults.{◌>>=◌}
+use Rattle.scenario_text.specs.Lines.{step_of}
+use Rattle.scenario_run.specs.Draft.{put_in, same_action, same_process}
+use Rattle.scenario_run.specs.Scene.{Scene, begun, acted, is_built, plain_action, with_actions, with_processes, with_past, put_action, put_process, run_step, run_line}
+use Rattle.polkit_daemon.specs.Replay.{Ran, after_line, run, Extends}
+
+pub same_extends : (past : List Item) → Extends past past
+same_extends past = ([], refl)
+
+pub more_extends : (a b c : List Item) → Extends b a → Extends c b → Extends c a
+more_extends a b c p q = (q.0 ++ p.0, q.1 ∙ ap (λ r. q.0 ++ r) p.1 ∙ sym (append_assoc q.0 p.0 a))
+
+begun_extends : (draft : Loaded) (moment : ℕ) (past : List Item) → Extends (begun draft moment past) past
+begun_extends draft moment [] = (next [] (load_given 0 moment draft) ∷ [], refl)
+begun_extends draft moment (i ∷ past) = same_extends (i ∷ past)
+
+acted_extends : (s : Scene) (caller : ℕ) (event : Event) → Extends (acted s caller event) s.past
+acted_extends s caller event =
+    more_extends s.past (begun s.draft s.moment s.past) (acted s caller event) (begun_extends s.draft s.moment s.past)
+    (next (begun s.draft s.moment s.past) (event_given caller s.moment 0 event) ∷ [], refl)
+
+scene_extends : (s next s' : Scene) → Extends next.past s.past → next ≡ s' → Extends s'.past s.past
+scene_extends s next s' g e = subst (λ (t : Scene). Extends t.past s.past) e g
+
+-- what is put into the draft leaves the items
+put_keeps : {A : Type 0} (r : Result (List A) LineKind) (with_rows : List A → Scene) (s s' : Scene) → ((rows : List A) → (with_rows rows).past ≡ s.past)
+    → (r >>= (λ rows. Ok (with_rows rows))) ≡ Ok s' → Extends s'.past s.past
+put_keeps (Ok rows) with_rows s s' keeps e =
+    scene_extends s (with_rows rows) s' (subst (λ (p : List Item). Extends p s.past) (sym (keeps rows)) (same_extends s.past)) (cc)
+put_keeps (Err k) with_rows s s' keeps e = absurd (cc)
+
+built_extends : (b : Bool) (s next s' : Scene) → Extends next.past s.past → (if b then Ok next else Err kind.Value) ≡ Ok s' → Extends s'.past s.past
+built_extends true s next s' g e = scene_extends s next s' g (cc)
+built_extends false s next s' g e = absurd (cc)
+
+step_extends : (s : Scene) (st : Step) (s' : Scene) → run_step s st ≡ Ok s' → Extends s'.past s.past
+step_extends s step.Blank s' e = scene_extends s s s' (same_extends s.past) (cc)
+step_extends s (step.Action id any inactive active) s' e =
+    put_keeps (put_in same_action s.draft.policy.actions (plain_action id any inactive active)) (with_actions s) s s' (λ rows. refl) e
+step_extends s (step.Process process) s' e =
+    put_keeps (put_in same_process s.draft.world.processes process) (with_processes s) s s' (λ rows. refl) e
+step_extends s (step.Act caller event) s' e =
+    built_extends (is_built event) s (with_past s (acted s caller event)) s' (acted_extends s caller event) e
+step_extends s _ s' e = absurd (cc)
+
+bound_extends : (r : Result Step LineKind) (s s' : Scene) → (r >>= run_step s) ≡ Ok s' → Extends s'.past s.past
+bound_extends (Ok st) s s' e = step_extends s st s' e
+bound_extends (Err k) s s' e = absurd (cc)
+
+pub line_extends : (s s' : Scene) (line : List ℕ) → run_line s line ≡ Ok s' → Extends s'.past s.past
+line_extends s s' line e = bound_extends (step_of line) s s' e
+
+after_extends : (r : Result Scene LineKind) (n : ℕ) (s : Scene) (line : List ℕ) (more : Scene → Ran) → run_line s line ≡ r
+    → ((t : Scene) → Extends (more t).scene.past t.past) → Extends (after_line n s r more).scene.past s.past
+after_extends (Ok next) n s line more e rest = more_extends s.past next.past (more next).scene.past (line_extends s next line e) (rest next)
+after_extends (Err k) n s line more e rest = same_extends s.past
+
+pub run_extends : (lines : List (List ℕ)) (n : ℕ) (s : Scene) → Extends (run lines n s).scene.past s.past
+run_extends [] n s = same_extends s.past
+run_extends (line ∷ lines) n s = after_extends (run_line s line) n s line (run lines (n + 1)) refl (λ t. run_extends lines (n + 1) t)

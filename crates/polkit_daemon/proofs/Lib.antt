@@ -1,0 +1,5 @@
+pub mod Entered
+pub mod Exits
+pub mod Grows
+pub mod Runs
+pub mod Texts

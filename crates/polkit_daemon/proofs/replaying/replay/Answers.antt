@@ -1,0 +1,76 @@
+-- What is known at each turn and at each exit.
+use Rattle.std.proofs.Common.{arith, refl, ap, sym, ◌∙◌, length, ◌++◌, Err}
+use Rattle.polkit_daemon.proofs.Exits.{at_none, at_first, go_on, stopped_gives, begins_line, begins_last, done_end, done_last, too_long, cut_off, no_memory, done_line}
+use Rattle.polkit_daemon.proofs.replaying.replay.Goals as goal
+
+pub returns-in-Err-clause-run : goal.returns-in-Err-clause-run
+returns-in-Err-clause-run g c = at_none _ _ _
+
+pub returns-in-Err-start-clause-run : goal.returns-in-Err-start-clause-run
+returns-in-Err-start-clause-run g c = at_none _ _ _
+
+pub lines-init : goal.lines-init
+lines-init g c =
+    let laws = g.met.I.Source g.world.𝓛 g.world.𝓜 g.world.𝓡 ((λ s x. x), (λ x. x), (λ x. x), λ x. x) in record {
+      so_far = at_first _ _ _ _ c.in-Ok.ensures.empty c.in-Ok-start.ensures.start;
+      counted = rw c.in-Ok-start.ensures.start c.new-counts.ensures.none;
+      read = omega arith;
+      wrote = omega arith;
+      count = omega (arith, laws.budget_bound c.args.input.now, ap length c.in-Ok.ensures.empty);
+    }
+
+pub lines-preserved : goal.lines-preserved
+lines-preserved g c = record {
+  so_far =
+      let t = c.in-Line.ensures.takes in
+      go_on c.lines.invariant.so_far (g.I.Source.ended c.next_line.new.input) _ _ t.0 _ c.next_line.new.line.items _ t.1 t.2 (rw c.as_slice.ensures.value at c.in-Ok-answer_line.ensures.done);
+  counted = c.in-Ok-answer_line.ensures.counted;
+  read = omega (arith, c.lines.invariant.read, c.next_line.ensures.later);
+  wrote = omega (arith, c.lines.invariant.wrote, c.answer_line.ensures.later);
+  count = omega (arith, c.lines.invariant.count, c.in-Line.ensures.fewer refl);
+}
+
+pub returns-in-Err-answer_line-clause-run : goal.returns-in-Err-answer_line-clause-run
+returns-in-Err-answer_line-clause-run g c =
+    let so = c.lines.invariant.so_far in
+    let t = c.in-Line.ensures.takes in
+    rw c.status_of.ensures.status
+    (stopped_gives c.in-Err-answer_line.stopped so (g.I.Source.ended c.next_line.new.input) (g.I.Source.left c.next_line.new.input) (g.O.Sink.held c.answer_line.new.output) t.0 c.next_line.new.line.items c.answer_line.new.stage
+    t.1 (begins_line so (g.I.Source.ended c.next_line.new.input) t.0 c.next_line.new.self c.next_line.new.line.items t.2)
+    (done_line c.lines.stage c.answer_line.new.stage _ _ (g.O.Sink.held c.lines.output) (g.O.Sink.held c.answer_line.new.output) (Err c.in-Err-answer_line.stopped) c.as_slice.ensures.value c.in-Err-answer_line.ensures.done))
+
+pub returns-in-End-clause-run : goal.returns-in-End-clause-run
+returns-in-End-clause-run g c =
+    let t = c.in-End.ensures.takes in
+    done_end c.lines.invariant.so_far _ _ t.0 c.next_line.new.self c.next_line.new.line.items t.1 t.2
+
+pub returns-in-TooLong-clause-run : goal.returns-in-TooLong-clause-run
+returns-in-TooLong-clause-run g c =
+    let t = c.in-TooLong.ensures.takes in
+    rw c.status_of-in-TooLong.ensures.status
+    (too_long c.lines.invariant.so_far (g.I.Source.ended c.next_line.new.input) (g.I.Source.left c.next_line.new.input) t.0 c.next_line.new.self c.next_line.new.line.items t.1 t.2)
+
+pub returns-in-ReadFault-clause-run : goal.returns-in-ReadFault-clause-run
+returns-in-ReadFault-clause-run g c =
+    let t = c.in-ReadFault.ensures.takes in
+    cut_off c.lines.invariant.so_far _ _ t.0 c.next_line.new.self c.next_line.new.line.items t.1 t.2
+
+pub returns-in-NoMemory-clause-run : goal.returns-in-NoMemory-clause-run
+returns-in-NoMemory-clause-run g c =
+    let t = c.in-NoMemory.ensures.takes in
+    no_memory c.lines.invariant.so_far _ _ _ t.0 t.1 refl
+
+pub returns-in-Ok-answer_line-2-clause-run : goal.returns-in-Ok-answer_line-2-clause-run
+returns-in-Ok-answer_line-2-clause-run g c =
+    let t = c.in-Last.ensures.takes in
+    done_last c.lines.invariant.so_far _ _ _ t.0 c.next_line.new.self c.next_line.new.line.items _ t.1 t.2
+    (rw c.as_slice-in-Last.ensures.value at c.in-Ok-answer_line-2.ensures.done)
+
+pub returns-in-Err-answer_line-2-clause-run : goal.returns-in-Err-answer_line-2-clause-run
+returns-in-Err-answer_line-2-clause-run g c =
+    let so = c.lines.invariant.so_far in
+    let t = c.in-Last.ensures.takes in
+    rw c.status_of-in-Err-answer_line-2.ensures.status
+    (stopped_gives c.in-Err-answer_line-2.stopped so (g.I.Source.ended c.next_line.new.input) (g.I.Source.left c.next_line.new.input) (g.O.Sink.held c.answer_line-in-Last.new.output) t.0 c.next_line.new.line.items c.answer_line-in-Last.new.stage
+    t.1 (begins_last so (g.I.Source.ended c.next_line.new.input) t.0 c.next_line.new.self c.next_line.new.line.items t.2)
+    (done_line c.lines.stage c.answer_line-in-Last.new.stage _ _ (g.O.Sink.held c.lines.output) (g.O.Sink.held c.answer_line-in-Last.new.output) (Err c.in-Err-answer_line-2.stopped) c.as_slice-in-Last.ensures.value c.in-Err-answer_line-2.ensures.done))

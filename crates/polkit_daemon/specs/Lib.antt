@@ -1,0 +1,4 @@
+pub mod Commands
+pub mod Counted
+pub mod Lines
+pub mod Replay

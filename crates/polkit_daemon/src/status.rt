@@ -1,0 +1,73 @@
+// How a command of the daemon ended.
+use crate::refused::{LoadRefused, MessageFault};
+use scenario_text::LineKind;
+use std::fmt;
+
+/// How a command of the daemon ended. Each status has an exit code, and a text of one line that is
+/// the variant's name and its fields in order.
+#[derive(Debug, Drop)]
+pub enum Status {
+    /// The command did all that its words and its input ask for.
+    Done,
+    /// The words are not in the grammar of the daemon's command line.
+    Usage,
+    /// The tree of the root counted a fault while the first load was read.
+    TreeFault { count: u64 },
+    /// The first load was refused by a limit or by a table.
+    LoadRefused { refused: LoadRefused },
+    /// The input counted a fault.
+    ReadFault,
+    /// The output counted a fault.
+    WriteFault,
+    /// A further entry was due, and the journal had reached a limit.
+    JournalFull { entries: u64, bytes: u64 },
+    /// The greatest number of connections was admitted.
+    Admissions { admitted: u32 },
+    /// A line of the scenario is not in its grammar. Lines are counted from 1.
+    BadLine { line: u64, kind: LineKind },
+    /// The input is no message, at this byte.
+    BadBytes { kind: MessageFault, at: u64 },
+    /// The input ended inside a message, of which so many bytes came.
+    Truncated { rest: u64 },
+    /// A listening socket could not be made or shut.
+    DoorFault,
+    /// Memory was refused.
+    NoMemory,
+}
+
+impl Status {
+    /// The exit code of the program.
+    pub fn code(&self) -> u8 {
+        match self {
+            Status::Done => 0,
+            Status::Usage => 1,
+            Status::TreeFault { .. } | Status::LoadRefused { .. } => 2,
+            Status::ReadFault => 3,
+            Status::WriteFault => 4,
+            Status::JournalFull { .. } | Status::Admissions { .. } => 5,
+            Status::BadLine { .. } | Status::BadBytes { .. } | Status::Truncated { .. } => 6,
+            Status::DoorFault => 7,
+            Status::NoMemory => 70,
+        }
+    }
+}
+
+impl fmt::Display for Status {
+    fn fmt<W: fmt::Write>(&self, f: &mut fmt::Formatter<W>) -> fmt::Result {
+        match self {
+            Status::Done => write!(f, "Done"),
+            Status::Usage => write!(f, "Usage"),
+            Status::TreeFault { count } => write!(f, "TreeFault {count}"),
+            Status::LoadRefused { refused } => write!(f, "LoadRefused {refused}"),
+            Status::ReadFault => write!(f, "ReadFault"),
+            Status::WriteFault => write!(f, "WriteFault"),
+            Status::JournalFull { entries, bytes } => write!(f, "JournalFull {entries} {bytes}"),
+            Status::Admissions { admitted } => write!(f, "Admissions {admitted}"),
+            Status::BadLine { line, kind } => write!(f, "BadLine {line} {kind:?}"),
+            Status::BadBytes { kind, at } => write!(f, "BadBytes {kind:?} {at}"),
+            Status::Truncated { rest } => write!(f, "Truncated {rest}"),
+            Status::DoorFault => write!(f, "DoorFault"),
+            Status::NoMemory => write!(f, "NoMemory"),
+        }
+    }
+}

@@ -1,0 +1,53 @@
+// The top call: the command that the words name.
+ghost use Rattle.std.specs.Prelude.{◌≡◌, ◌↔◌, None, Some};
+ghost use Rattle.pk_outside.specs.Causes.{Rose};
+ghost use Rattle.polkit_daemon.specs.Commands.{command_of};
+ghost use Rattle.polkit_daemon.specs.Replay.{Replays};
+
+use crate::command::Command;
+use crate::replaying::replay;
+use crate::status::Status;
+use authority_core::Limits;
+use pk_outside::{Sink, Source, Station, Tree};
+use pk_types::Text;
+use std::alloc::Global;
+use std::sync::Wait;
+use std::thread::Threads;
+
+/// The greatest limits of a journal.
+const GREATEST: Limits = Limits {
+    entries: 1048576,
+    bytes: 536870912,
+};
+
+/// Runs the command that the words name, over these objects of the outside.
+///
+/// # Errors
+/// `Usage` exactly where the words are not in the grammar, and then nothing was read or written;
+/// otherwise the status of the command.
+pub fn polkitd<R: Threads + Wait + Sync, T: Tree, N: Station, I: Source, O: Sink>(
+    _rt: &R,
+    alloc: Global,
+    words: &[Text],
+    tree: &mut T,
+    _station: &mut N,
+    input: &mut I,
+    output: &mut O,
+) -> Status
+    ensures usage { (result ≡ Status.Usage) ↔ (command_of words.now ≡ None) }
+    ensures unread { result ≡ Status.Usage → I.left input.new ≡ I.left input.old }
+    ensures unwritten { result ≡ Status.Usage → O.held output.new ≡ O.held output.old }
+
+    // A replay writes the text of the legal history that the bytes read make, as far as the status says.
+    ensures replay { command_of words.now ≡ Some Command.Replay →
+        Replays (I.left input.old) (I.left input.new) (I.ended input.new) (O.held output.old) (O.held output.new) result }
+
+    // A fault of the outside is told only where the object counted it.
+    ensures read { result ≡ Status.ReadFault → Rose (I.faults input.old) (I.faults input.new) }
+    ensures write { result ≡ Status.WriteFault → Rose (O.faults output.old) (O.faults output.new) }
+{
+    match Command::read(words) {
+        Some(Command::Replay) => replay(alloc, None, GREATEST, tree, input, output),
+        None => Status::Usage,
+    }
+}

@@ -1,0 +1,84 @@
+// Writes the answer lines of outputs.
+ghost use Rattle.std.specs.Prelude.{◌≡◌, ◌≤◌, [], ◌∷◌, OnOk, OnErr, IsErrOf};
+ghost use Rattle.pk_outside.specs.Causes.{Rose};
+ghost use Rattle.pk_outside.specs.Streams.{Got, GotFront};
+ghost use Rattle.scenario_run.specs.Text.{outputs_text, counts_after};
+ghost use Rattle.polkit_daemon.specs.Counted.{counted};
+
+use crate::counts::Counts;
+use authority_model::{History, Output};
+use pk_outside::{Failed, Sink, write_all};
+use pk_types::NoMemory;
+use scenario_text::answer_text;
+use std::alloc::Global;
+
+/// Why an answer was not written whole.
+#[derive(Clone, Copy, Debug, PartialEq, Eq)]
+pub enum WriteRefused {
+    /// The sink failed, and counted it.
+    Failed,
+    NoMemory,
+}
+
+impl From<Failed> for WriteRefused {
+    ghost use Rattle.std.specs.Prelude.{◌≡◌};
+    ghost use Rattle.polkit_daemon.specs.declared.written.WriteRefused.TheVariants as refused;
+
+    ghost from_gives = { λ _ e. e ≡ refused.Failed };
+
+    fn from(_: Failed) -> Self {
+        WriteRefused::Failed
+    }
+}
+
+impl From<NoMemory> for WriteRefused {
+    ghost use Rattle.std.specs.Prelude.{◌≡◌};
+    ghost use Rattle.polkit_daemon.specs.declared.written.WriteRefused.TheVariants as refused;
+
+    ghost from_gives = { λ _ e. e ≡ refused.NoMemory };
+
+    fn from(_: NoMemory) -> Self {
+        WriteRefused::NoMemory
+    }
+}
+
+/// Writes the answer line of one output.
+#[tactic(auto, using(crate::proofs::Texts::front_none))]
+fn write_answer<O: Sink>(
+    alloc: Global,
+    history: &History,
+    counts: &mut Counts,
+    answer: &Output,
+    output: &mut O,
+) -> Result<(), WriteRefused>
+    ensures ok { OnOk result (Got (O.held output.old) (O.held output.new) (outputs_text history.now.loads (counted counts.old) (answer.now ∷ []))) }
+    ensures counted { OnOk result (counted counts.new ≡ counts_after (counted counts.old) (answer.now ∷ [])) }
+    ensures err { OnErr result (GotFront (O.held output.old) (O.held output.new) (outputs_text history.now.loads (counted counts.old) (answer.now ∷ []))) }
+    ensures cause { IsErrOf result WriteRefused.Failed → Rose (O.faults output.old) (O.faults output.new) }
+    ensures later { O.faults output.old ≤ O.faults output.new }
+{
+    let serial = counts.next(answer.to)?;
+    let line = answer_text(alloc, answer, history, serial)?;
+    write_all(output, line.as_slice())?;
+    Ok(())
+}
+
+/// Writes the answer lines of these outputs, one after another.
+pub fn write_answers<O: Sink>(
+    alloc: Global,
+    history: &History,
+    counts: &mut Counts,
+    answers: &[Output],
+    output: &mut O,
+) -> Result<(), WriteRefused>
+    ensures ok { OnOk result (Got (O.held output.old) (O.held output.new) (outputs_text history.now.loads (counted counts.old) answers.now)) }
+    ensures counted { OnOk result (counted counts.new ≡ counts_after (counted counts.old) answers.now) }
+    ensures err { OnErr result (GotFront (O.held output.old) (O.held output.new) (outputs_text history.now.loads (counted counts.old) answers.now)) }
+    ensures cause { IsErrOf result WriteRefused.Failed → Rose (O.faults output.old) (O.faults output.new) }
+    ensures later { O.faults output.old ≤ O.faults output.new }
+{
+    for answer in answers {
+        write_answer(alloc, history, counts, answer, output)?;
+    }
+    Ok(())
+}

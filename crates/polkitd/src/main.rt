@@ -1,0 +1,79 @@
+//! The daemon: it makes the real objects of the outside, and calls the top call.
+#![tactic(auto)]
+
+use pk_outside::{ListStation, ListTree, ReadSource, WriteSink};
+use pk_types::{List, NoMemory, Text, TextList};
+use polkit_daemon::{Status, polkitd};
+use std::process::ExitCode;
+use std::rt::Env;
+use std::sync::Wait;
+use std::thread::Threads;
+use std::{env, io};
+
+const HELP: &str =
+    "usage: polkitd replay\n\nreplay  runs the scenario on standard input, and writes its answers to standard output\n\nOptions, each alone:\n  --help     shows this text\n  --version  shows the version\n\nExit status: 0 done, 1 usage, 3 read fault, 4 write fault, 6 a line that is not in the grammar,\n70 out of memory. Any but 0 is told by one line on standard error.\n";
+
+const VERSION: &str = "polkitd 0.105.0\n";
+
+/// The words behind the program's name, or none where they are no texts.
+fn words<R: Env + AllocGlobal>(rt: &R) -> Result<Option<TextList>, NoMemory> {
+    let alloc = rt.alloc();
+    let mut words = List::new(alloc);
+    let Ok(args) = env::args(rt) else {
+        return Ok(None);
+    };
+    for word in args.skip(1) {
+        match Text::try_from_bytes(alloc, word.as_bytes()) {
+            Ok(text) => words.try_push(text)?,
+            Err(_) => return Ok(None),
+        }
+    }
+    Ok(Some(words))
+}
+
+/// The text that the only word asks for, if it does.
+fn told_by(words: &[Text]) -> Option<&'static str> {
+    match words {
+        [word] if word.bytes() == b"--help".as_slice() => Some(HELP),
+        [word] if word.bytes() == b"--version".as_slice() => Some(VERSION),
+        _ => None,
+    }
+}
+
+fn run<R: Threads + Wait + Sync + Env + Input + Print + AllocGlobal>(rt: &R) -> Status
+where
+    R::Reader: Send,
+{
+    let words = match words(rt) {
+        Ok(Some(words)) => words,
+        Ok(None) => return Status::Usage,
+        Err(NoMemory) => return Status::NoMemory,
+    };
+    if let Some(text) = told_by(words.as_slice()) {
+        return match print!(rt; "{text}") {
+            Ok(()) => Status::Done,
+            Err(_) => Status::WriteFault,
+        };
+    }
+    let mut tree = ListTree::new();
+    let mut station = ListStation::new();
+    let mut input = ReadSource::new(rt.reader());
+    let mut output = WriteSink::new(io::writer(rt));
+    polkitd(
+        rt,
+        rt.alloc(),
+        words.as_slice(),
+        &mut tree,
+        &mut station,
+        &mut input,
+        &mut output,
+    )
+}
+
+fn main(rt: HostRuntime) -> ExitCode {
+    let status = run(&rt);
+    if status.code() != 0 {
+        let _ = eprintln!(rt; "{status}");
+    }
+    ExitCode::from(status.code())
+}

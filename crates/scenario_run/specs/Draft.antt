@@ -1,0 +1,36 @@
+-- The draft of the next load: lists in which a line takes the place of the row with its key.
+use Rattle.std.specs.Prelude.{ℕ, Bool, true, false, ◌&&◌, ◌==◌, nat_le, List, [], ◌∷◌, ◌++◌, Option, None, Some, Result, Ok, Err, is_none, length, position, slice_set, if◌then◌else◌}
+use Rattle.std.specs.Str.{bytes_eq}
+use Rattle.scenario_text.specs.declared.fault.LineKind.{LineKind}
+use Rattle.scenario_text.specs.declared.fault.LineKind.TheVariants as kind
+use Rattle.authority_model.specs.declared.policy.Action.{Action}
+use Rattle.authority_model.specs.declared.world.Process.{Process}
+
+-- the place of the first row with the key of this one
+abbrev pub place_of : {A : Type 0} → (A → A → Bool) → List A → A → Option ℕ
+place_of same rows row = position (λ x. same x row) rows
+
+-- the row at a place, or last
+abbrev pub put_at : {A : Type 0} → List A → A → Option ℕ → List A
+put_at rows row (Some place) = slice_set rows place row
+put_at rows row None = rows ++ row ∷ []
+
+-- the row in the place of the first with its key, or last
+abbrev pub put_by : {A : Type 0} → (A → A → Bool) → List A → A → List A
+put_by same rows row = put_at rows row (place_of same rows row)
+
+-- the row's key is new, and 1,048,576 rows stand in the list
+abbrev pub is_full_for : {A : Type 0} → (A → A → Bool) → List A → A → Bool
+is_full_for same rows row = is_none (place_of same rows row) && nat_le 1048576 (length rows)
+
+-- the rows with this one put in, unless the list is full for it
+abbrev pub put_in : {A : Type 0} → (A → A → Bool) → List A → A → Result (List A) LineKind
+put_in same rows row = if is_full_for same rows row then Err kind.Value else Ok (put_by same rows row)
+
+-- the key of an action is its id
+abbrev pub same_action : Action → Action → Bool
+same_action a b = bytes_eq a.id b.id
+
+-- the key of a process is its pid
+abbrev pub same_process : Process → Process → Bool
+same_process a b = a.pid == b.pid

@@ -1,0 +1,4 @@
+pub mod Draft
+pub mod Scene
+pub mod Stages
+pub mod Text

@@ -1,0 +1,10 @@
+//! A run of scenario lines: the draft of the next load, and the authority that is asked.
+//!
+//! What a line makes of a scenario is a definition over plain lists (`specs/Scene.antt`); the
+//! stage is the code's own, and its calls are proved to be that definition.
+#![tactic(auto)]
+
+mod draft;
+mod stage;
+
+pub use stage::{Stage, Taken};

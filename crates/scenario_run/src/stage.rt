@@ -1,0 +1,235 @@
+// A run of scenario lines: the draft, and the authority that is asked.
+ghost use Rattle.std.specs.Prelude.{◌≡◌, ◌≤◌, [], Ok, IsTrue, IfOk, OnOk, IfErr};
+ghost use Rattle.authority_model.specs.Built.{IsBuiltCall, IsBuiltEvent};
+ghost use Rattle.authority_model.specs.Items.{items_of};
+ghost use Rattle.authority_model.specs.Legal.{IsLegal};
+ghost use Rattle.scenario_run.specs.Scene.{is_built, is_built_call, plain_action};
+ghost use Rattle.scenario_run.specs.Text.{loads_of};
+ghost use Rattle.scenario_text.specs.Faults.{IsFaultOf};
+
+use crate::draft::put;
+use authority_core::{Authority, Limits};
+use authority_model::{Action, Call, Event, History, Loaded, Output, Process};
+use pk_types::{ActionId, Implicit, List, NoMemory, Text, TryCopy};
+use scenario_text::{LineFault, LineKind, Step, read_line};
+use std::alloc::Global;
+use std::marker::Model;
+
+/// What a line did.
+#[derive(Clone, Copy, Debug, PartialEq, Eq)]
+pub enum Taken {
+    /// It changed the draft or the moment, or it was blank.
+    Draft,
+    /// It made an entry, which is the journal's last.
+    Entry,
+}
+
+/// Where a scenario stands: the draft of the next load, the moment of the next event, and the
+/// authority with its journal. Contracts see it as a scene.
+#[derive(Drop)]
+pub struct Stage {
+    draft: Loaded,
+    moment: u64,
+    authority: Authority,
+}
+
+impl Model for Stage {
+    ghost use Rattle.std.specs.Prelude.{◌≤◌, ◌^◌};
+    ghost use Rattle.authority_model.specs.Items.{items_of};
+    ghost use Rattle.authority_model.specs.Built.{IsPlainLoad};
+    ghost use Rattle.scenario_run.specs.Scene.{Scene};
+
+    ghost Value = { Scene };
+
+    ghost view = { λ s. record { draft = s.draft; moment = s.moment; past = items_of s.authority } };
+
+    ghost invariant = { λ s. IsPlainLoad s.draft × (s.moment ≤ 2 ^ 62) };
+}
+
+/// Whether an event is one that the authority takes so far.
+fn is_built(event: &Event) -> bool
+    ensures value { result ≡ is_built event.now }
+    ensures built { IsTrue result → IsBuiltEvent event.now }
+{
+    match event {
+        Event::Connect { .. } => true,
+        Event::Call { call, .. } => is_built_call(call),
+        _ => false,
+    }
+}
+
+/// Whether a call is one that the authority takes so far.
+fn is_built_call(call: &Call) -> bool
+    ensures value { result ≡ is_built_call call.now }
+    ensures built { IsTrue result → IsBuiltCall call.now }
+{
+    match call {
+        Call::Check {
+            details,
+            flags,
+            cancel,
+            ..
+        } => details.is_empty() && *flags == 0 && cancel.bytes().is_empty(),
+        _ => false,
+    }
+}
+
+/// The action of an action line: it has no texts and no annotations.
+fn plain_action(
+    alloc: Global,
+    id: ActionId,
+    any: Implicit,
+    inactive: Implicit,
+    active: Implicit,
+) -> Action
+    ensures action { result ≡ plain_action id any inactive active }
+{
+    Action {
+        id,
+        descriptions: List::new(alloc),
+        messages: List::new(alloc),
+        vendor: Text::new(alloc),
+        vendor_url: Text::new(alloc),
+        icon: Text::new(alloc),
+        any,
+        inactive,
+        active,
+        annotations: List::new(alloc),
+    }
+}
+
+impl Stage {
+    ghost use Rattle.scenario_run.specs.Scene.{start, begun, acted, with_actions, with_processes, with_past, put_action, put_process, run_step, run_line};
+    ghost use Rattle.scenario_run.specs.Stages.{TakenIs, last_outputs};
+
+    /// An empty draft, moment 0 and an authority with an empty journal.
+    pub fn start(alloc: Global, limits: Limits) -> Result<Stage, NoMemory>
+        requires limits { (limits.entries ≤ 1048576) × (limits.bytes ≤ 536870912) }
+        ensures start { IfOk result (λ stage. stage ≡ start) }
+    {
+        let authority = Authority::start(alloc, limits)?;
+        Ok(Stage {
+            draft: Loaded::empty(alloc),
+            moment: 0,
+            authority,
+        })
+    }
+
+    /// The journal, which is legal.
+    pub fn history(&self) -> &History
+        ensures items { items_of result.now ≡ self.now.past }
+        ensures loads { result.now.loads ≡ loads_of self.now.past }
+        ensures legal { IsLegal result.now }
+    {
+        self.authority.history()
+    }
+
+    /// The outputs of the last entry.
+    pub fn last_outputs(&self) -> &[Output]
+        ensures outputs { result.now ≡ last_outputs self.now.past }
+    {
+        match self.authority.history().entries.as_slice().last() {
+            Some(entry) => entry.outputs.as_slice(),
+            None => &[],
+        }
+    }
+
+    /// Loads the draft, unless an event came before.
+    fn begin(&mut self) -> Result<(), NoMemory>
+        ensures ok { OnOk result (self.new ≡ with_past self.old (begun self.old.draft self.old.moment self.old.past)) }
+    {
+        if !self.authority.history().entries.is_empty() {
+            return Ok(());
+        }
+        let draft = self.draft.try_copy()?;
+        match self.authority.load(0, self.moment, draft) {
+            Ok(_) => return Ok(()),
+            Err(_) => return Err(NoMemory),
+        }
+    }
+
+    /// Submits an event, before which the draft is loaded if there was none.
+    fn act(&mut self, caller: u32, event: Event) -> Result<(), NoMemory>
+        requires { IsBuiltEvent event }
+        ensures ok { OnOk result (self.new ≡ with_past self.old (acted self.old caller event)) }
+    {
+        self.begin()?;
+        match self.authority.step(caller, self.moment, 0, event) {
+            Ok(_) => return Ok(()),
+            Err(_) => return Err(NoMemory),
+        }
+    }
+
+    /// Submits an event, if it is one that the authority takes so far.
+    fn take_event(&mut self, caller: u32, event: Event) -> Result<Taken, LineKind>
+        ensures ok { OnOk result (run_step self.old (Step.Act caller event) ≡ Ok self.new) }
+        ensures taken { IfOk result (λ taken. TakenIs taken self.old.past self.new.past) }
+        ensures err { IfErr result (λ kind. IsFaultOf kind (run_step self.old (Step.Act caller event))) }
+    {
+        if !is_built(&event) {
+            return Err(LineKind::Value);
+        }
+        self.act(caller, event)?;
+        Ok(Taken::Entry)
+    }
+
+    /// Puts an action into the draft.
+    fn put_action(&mut self, action: Action) -> Result<(), LineKind>
+        requires { action.annotations ≡ [] }
+        ensures ok { OnOk result (put_action self.old action ≡ Ok self.new) }
+        ensures err { IfErr result (λ kind. IsFaultOf kind (put_action self.old action)) }
+    {
+        put(&mut self.draft.policy.actions, action)
+    }
+
+    /// Puts a process into the draft.
+    fn put_process(&mut self, process: Process) -> Result<(), LineKind>
+        ensures ok { OnOk result (put_process self.old process ≡ Ok self.new) }
+        ensures err { IfErr result (λ kind. IsFaultOf kind (put_process self.old process)) }
+    {
+        put(&mut self.draft.world.processes, process)
+    }
+
+    /// Does what a step says.
+    fn take_step(&mut self, alloc: Global, step: Step) -> Result<Taken, LineKind>
+        ensures ok { OnOk result (run_step self.old step ≡ Ok self.new) }
+        ensures taken { IfOk result (λ taken. TakenIs taken self.old.past self.new.past) }
+        ensures err { IfErr result (λ kind. IsFaultOf kind (run_step self.old step)) }
+    {
+        match step {
+            Step::Blank => Ok(Taken::Draft),
+            Step::Action {
+                id,
+                any,
+                inactive,
+                active,
+            } => {
+                self.put_action(plain_action(alloc, id, any, inactive, active))?;
+                Ok(Taken::Draft)
+            }
+            Step::Process { row } => {
+                self.put_process(row)?;
+                Ok(Taken::Draft)
+            }
+            Step::Act { caller, event } => self.take_event(caller, event),
+            _ => Err(LineKind::Value),
+        }
+    }
+
+    /// Does what a line says, which has this number.
+    ///
+    /// # Errors
+    /// The first fault of the line, or `NoMemory`.
+    pub fn take_line(&mut self, alloc: Global, line: &[u8], number: u64) -> Result<Taken, LineFault>
+        ensures ok { OnOk result (run_line self.old line.now ≡ Ok self.new) }
+        ensures taken { IfOk result (λ taken. TakenIs taken self.old.past self.new.past) }
+        ensures err { IfErr result (λ fault. IsFaultOf fault.kind (run_line self.old line.now)) }
+        ensures line { IfErr result (λ fault. fault.line ≡ number) }
+    {
+        let step = read_line(alloc, line, number)?;
+        match self.take_step(alloc, step) {
+            Ok(taken) => Ok(taken),
+            Err(kind) => Err(LineFault { line: number, kind }),
+        }
+    }
+}
