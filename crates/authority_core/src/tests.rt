@@ -59,8 +59,22 @@ const ROWS: [Row; 10] = [
     (2, 1, 1, 1, "a.no", Told::Yes),
     (1, 4, 60, 9, "a.yes", Told::Refused(ErrorCause::NotTrusted)),
     (2, 2, 60, 9, "a.no", Told::No),
-    (1, 5, 9, 9, "a.none", Told::Refused(ErrorCause::UnknownAction)),
-    (1, 6, 9, 9, "a.yes", Told::Refused(ErrorCause::UnknownSubject)),
+    (
+        1,
+        5,
+        9,
+        9,
+        "a.none",
+        Told::Refused(ErrorCause::UnknownAction),
+    ),
+    (
+        1,
+        6,
+        9,
+        9,
+        "a.yes",
+        Told::Refused(ErrorCause::UnknownSubject),
+    ),
     (1, 0, 51, 8, "a.yes", Told::Nothing),
     (3, 1, 51, 8, "a.yes", Told::Nothing),
 ];
@@ -138,13 +152,7 @@ fn plain_load(alloc: Global) -> Result<Loaded, Fail>
     Ok(loaded)
 }
 
-fn check(
-    alloc: Global,
-    serial: u32,
-    pid: u32,
-    start: u64,
-    id: &str,
-) -> Result<Event, Fail>
+fn check(alloc: Global, serial: u32, pid: u32, start: u64, id: &str) -> Result<Event, Fail>
     ensures built { IfOk result IsBuiltEvent }
 {
     let action = Text::try_from_bytes(alloc, id.as_bytes())?;
@@ -195,7 +203,9 @@ fn checks_by_root_and_by_defaults(rt: HostRuntime) -> Result<(), Fail> {
     let alloc = rt.alloc();
     let mut authority = started(alloc)?;
     for (caller, uid) in [(1, 1000), (2, 0)] {
-        assert!(rt; answered(&mut authority, caller, Event::Connect { uid }) == Some(Told::Nothing));
+        assert!(rt;
+            answered(&mut authority, caller, Event::Connect { uid }) == Some(Told::Nothing)
+        );
     }
     for row in &ROWS {
         assert!(rt; is_told(&mut authority, alloc, row)?, "{}", row.4);

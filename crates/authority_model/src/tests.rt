@@ -131,8 +131,8 @@ fn fault(alloc: Global) -> Result<FileFault, Fail> {
 fn rows_are_copied(rt: HostRuntime) -> Result<(), Fail> {
     let alloc = rt.alloc();
     assert!(rt; user(alloc)?.try_copy()?.gids.len() == 2);
-    assert!(rt; group(alloc)?.try_copy()?.label.bytes() == b"unix-group:w");
-    assert!(rt; session(alloc)?.try_copy()?.id.bytes() == b"s1");
+    assert!(rt; group(alloc)?.try_copy()?.label.bytes() == b"unix-group:w".as_slice());
+    assert!(rt; session(alloc)?.try_copy()?.id.bytes() == b"s1".as_slice());
     assert!(rt; process(alloc)?.try_copy()?.session.is_some());
     assert!(rt; fault(alloc)?.try_copy()?.at == 3);
     Ok(())
