@@ -49,26 +49,19 @@ fn answer_in(entry: &Entry) -> Told {
     }
 }
 
-/// Caller, serial, quiet, pid, start and action of a check, and what it is told.
-const ROWS: [(u32, u32, bool, u32, u64, &str, Told); 11] = [
-    (1, 1, false, 51, 8, "a.yes", Told::Yes),
-    (1, 2, false, 51, 8, "a.no", Told::No),
-    (1, 3, false, 51, 8, "a.admin", Told::Challenge),
-    (2, 1, false, 1, 1, "a.no", Told::Yes),
-    (
-        1,
-        4,
-        false,
-        60,
-        9,
-        "a.yes",
-        Told::Refused(ErrorCause::NotTrusted),
-    ),
-    (2, 2, false, 60, 9, "a.no", Told::No),
+/// Caller, serial, pid, start and action of a check, and what it is told.
+type Row = (u32, u32, u32, u64, &'static str, Told);
+
+const ROWS: [Row; 10] = [
+    (1, 1, 51, 8, "a.yes", Told::Yes),
+    (1, 2, 51, 8, "a.no", Told::No),
+    (1, 3, 51, 8, "a.admin", Told::Challenge),
+    (2, 1, 1, 1, "a.no", Told::Yes),
+    (1, 4, 60, 9, "a.yes", Told::Refused(ErrorCause::NotTrusted)),
+    (2, 2, 60, 9, "a.no", Told::No),
     (
         1,
         5,
-        false,
         9,
         9,
         "a.none",
@@ -77,21 +70,21 @@ const ROWS: [(u32, u32, bool, u32, u64, &str, Told); 11] = [
     (
         1,
         6,
-        false,
         9,
         9,
         "a.yes",
         Told::Refused(ErrorCause::UnknownSubject),
     ),
-    (1, 7, true, 51, 8, "a.yes", Told::Nothing),
-    (1, 0, false, 51, 8, "a.yes", Told::Nothing),
-    (3, 1, false, 51, 8, "a.yes", Told::Nothing),
+    (1, 0, 51, 8, "a.yes", Told::Nothing),
+    (3, 1, 51, 8, "a.yes", Told::Nothing),
 ];
 
 const ANY: RuleSource = RuleSource::Default(Category::Any);
 
 /// Pid, start and action, and what is decided.
-const DECISIONS: [(u32, u64, &str, Option<Decision>); 6] = [
+type Case = (u32, u64, &'static str, Option<Decision>);
+
+const DECISIONS: [Case; 6] = [
     (1, 1, "a.no", Some(Decision::Root)),
     (51, 8, "a.yes", Some(Decision::Yes(ANY))),
     (51, 8, "a.no", Some(Decision::No(ANY))),
@@ -159,20 +152,13 @@ fn plain_load(alloc: Global) -> Result<Loaded, Fail>
     Ok(loaded)
 }
 
-fn check(
-    alloc: Global,
-    serial: u32,
-    quiet: bool,
-    pid: u32,
-    start: u64,
-    id: &str,
-) -> Result<Event, Fail>
+fn check(alloc: Global, serial: u32, pid: u32, start: u64, id: &str) -> Result<Event, Fail>
     ensures built { IfOk result IsBuiltEvent }
 {
     let action = Text::try_from_bytes(alloc, id.as_bytes())?;
     Ok(Event::Call {
         serial,
-        quiet,
+        quiet: false,
         call: Call::Check {
             subject: Subject::Process { pid, start },
             action,
@@ -205,30 +191,40 @@ fn answered(authority: &mut Authority, caller: u32, event: Event) -> Option<Told
     Some(answer_in(entry))
 }
 
+/// Whether a check is told what its row says.
+fn is_told(authority: &mut Authority, alloc: Global, row: &Row) -> Result<bool, Fail> {
+    let (caller, serial, pid, start, id, want) = *row;
+    let event = check(alloc, serial, pid, start, id)?;
+    Ok(answered(authority, caller, event) == Some(want))
+}
+
 #[test]
 fn checks_by_root_and_by_defaults(rt: HostRuntime) -> Result<(), Fail> {
     let alloc = rt.alloc();
     let mut authority = started(alloc)?;
     for (caller, uid) in [(1, 1000), (2, 0)] {
-        let told = answered(&mut authority, caller, Event::Connect { uid });
-        assert_eq!(rt; told, Some(Told::Nothing));
+        assert!(rt;
+            answered(&mut authority, caller, Event::Connect { uid }) == Some(Told::Nothing)
+        );
     }
-    for (caller, serial, quiet, pid, start, id, want) in ROWS {
-        let event = check(alloc, serial, quiet, pid, start, id)?;
-        let told = answered(&mut authority, caller, event);
-        assert_eq!(rt; told, Some(want), "{id} of {pid} by {caller}");
+    for row in &ROWS {
+        assert!(rt; is_told(&mut authority, alloc, row)?, "{}", row.4);
     }
     Ok(())
 }
 
+/// Whether a decision is what its row says.
+fn is_decided(authority: &Authority, alloc: Global, row: &Case) -> Result<bool, Fail> {
+    let (pid, start, id, want) = *row;
+    let id = Text::try_from_bytes(alloc, id.as_bytes())?;
+    Ok(authority.decide(0, &Subject::Process { pid, start }, &id) == want)
+}
+
 #[test]
 fn decisions_are_told(rt: HostRuntime) -> Result<(), Fail> {
-    let alloc = rt.alloc();
-    let authority = started(alloc)?;
-    for (pid, start, id, want) in DECISIONS {
-        let id = Text::try_from_bytes(alloc, id.as_bytes())?;
-        let told = authority.decide(0, &Subject::Process { pid, start }, &id);
-        assert_eq!(rt; told, want, "of {pid}");
+    let authority = started(rt.alloc())?;
+    for row in &DECISIONS {
+        assert!(rt; is_decided(&authority, rt.alloc(), row)?, "{}", row.2);
     }
     Ok(())
 }

@@ -24,6 +24,7 @@ pub mod Sent
 pub mod Licensed
 pub mod LookBack
 pub mod Reasons
+pub mod Details
 pub mod Causes
 pub mod Costs
 pub mod Small

@@ -1,5 +1,5 @@
 -- The rows of a world. Where several rows have what is asked for, the first one counts.
-use Rattle.std.specs.Prelude.{ℕ, ◌==◌, Bool, ◌&&◌, Option, option_map, option_and_then, codes, bytes_eq, find}
+use Rattle.std.specs.Prelude.{ℕ, ◌==◌, Bool, ◌&&◌, ◌++◌, Option, option_map, option_and_then, codes, bytes_eq, find}
 use Rattle.pk_types.specs.declared.values.Identity.{Identity}
 use Rattle.authority_model.specs.declared.key.Key.{Key}
 use Rattle.authority_model.specs.declared.world.World.{World}
@@ -25,6 +25,14 @@ user_row world uid = find (λ u. u.uid == uid) world.users
 -- the group with this gid
 abbrev pub group_row : World → ℕ → Option GroupRow
 group_row world gid = find (λ g. g.gid == gid) world.groups
+
+-- the label of a user of this name, which identity globs match
+abbrev pub user_label : Bytes → Bytes
+user_label name = codes "unix-user:" ++ name
+
+-- the label of a group of this name
+abbrev pub group_label : Bytes → Bytes
+group_label name = codes "unix-group:" ++ name
 
 -- whether the world lists a key: some row has all its parts
 abbrev pub lists_key : World → Key → Bool

@@ -15,6 +15,8 @@ mod locale;
 mod message;
 mod pending;
 mod policy;
+#[cfg(test)]
+mod tests;
 mod verdict;
 mod world;
 

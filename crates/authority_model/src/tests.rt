@@ -1,0 +1,149 @@
+// Copies with ample memory, and the text that a locale chooses.
+use crate::{
+    Action, FileFault, Group, Loaded, Localized, LocalizedList, Process, RuleEntry, Session, User,
+    localized,
+};
+use pk_types::{ActionId, Implicit, List, Text, TextList, TryCopy};
+use std::alloc::Global;
+use std::test::Fail;
+
+fn text(alloc: Global, bytes: &str) -> Result<Text, Fail> {
+    Ok(Text::try_from_bytes(alloc, bytes.as_bytes())?)
+}
+
+fn texts(alloc: Global, bytes: &str) -> Result<TextList, Fail> {
+    let mut texts = List::new(alloc);
+    texts.try_push(text(alloc, bytes)?)?;
+    Ok(texts)
+}
+
+fn add(alloc: Global, list: &mut LocalizedList, lang: &str, words: &str) -> Result<(), Fail> {
+    let lang = text(alloc, lang)?;
+    let text = text(alloc, words)?;
+    list.try_push(Localized { lang, text })?;
+    Ok(())
+}
+
+fn descriptions(alloc: Global) -> Result<LocalizedList, Fail> {
+    let mut list = List::new(alloc);
+    add(alloc, &mut list, "", "Set the clock")?;
+    add(alloc, &mut list, "de", "Uhr stellen")?;
+    add(alloc, &mut list, "da", "Indstil uret")?;
+    Ok(list)
+}
+
+fn is_chosen(alloc: Global, locale: &str, words: &str) -> Result<bool, Fail> {
+    let list = descriptions(alloc)?;
+    let locale = text(alloc, locale)?;
+    Ok(match localized(&list, &locale) {
+        Some(text) => text.bytes() == words.as_bytes(),
+        None => false,
+    })
+}
+
+#[test]
+fn locales_choose_texts(rt: HostRuntime) -> Result<(), Fail> {
+    assert!(rt; is_chosen(rt.alloc(), "de_DE.UTF-8", "Uhr stellen")?);
+    assert!(rt; is_chosen(rt.alloc(), "da@euro", "Indstil uret")?);
+    assert!(rt; is_chosen(rt.alloc(), "C", "Set the clock")?);
+    Ok(())
+}
+
+fn action(alloc: Global) -> Result<Action, Fail> {
+    let id = ActionId::read(&text(alloc, "a.yes")?)?;
+    Ok(Action {
+        id,
+        descriptions: descriptions(alloc)?,
+        messages: descriptions(alloc)?,
+        vendor: text(alloc, "v")?,
+        vendor_url: text(alloc, "u")?,
+        icon: text(alloc, "i")?,
+        any: Implicit::Yes,
+        inactive: Implicit::No,
+        active: Implicit::AuthSelf,
+        annotations: List::new(alloc),
+    })
+}
+
+fn rule(alloc: Global) -> Result<RuleEntry, Fail> {
+    Ok(RuleEntry {
+        identities: texts(alloc, "unix-user:a")?,
+        actions: texts(alloc, "a.*")?,
+        any: None,
+        inactive: None,
+        active: Some(Implicit::Yes),
+        pairs: List::new(alloc),
+    })
+}
+
+fn load(alloc: Global) -> Result<Loaded, Fail> {
+    let mut load = Loaded::empty(alloc);
+    load.policy.actions.try_push(action(alloc)?)?;
+    load.policy.entries.try_push(rule(alloc)?)?;
+    load.policy.admins = texts(alloc, "unix-group:wheel")?;
+    Ok(load)
+}
+
+fn user(alloc: Global) -> Result<User, Fail> {
+    Ok(User {
+        uid: 1000,
+        name: text(alloc, "a")?,
+        label: text(alloc, "unix-user:a")?,
+        gids: List::try_from_slice(alloc, &[100, 10])?,
+    })
+}
+
+fn group(alloc: Global) -> Result<Group, Fail> {
+    Ok(Group {
+        gid: 10,
+        name: text(alloc, "w")?,
+        label: text(alloc, "unix-group:w")?,
+    })
+}
+
+fn session(alloc: Global) -> Result<Session, Fail> {
+    Ok(Session {
+        id: text(alloc, "s1")?,
+        uid: 1000,
+        local: true,
+        active: false,
+    })
+}
+
+fn process(alloc: Global) -> Result<Process, Fail> {
+    Ok(Process {
+        pid: 50,
+        start: 7,
+        uid: 1000,
+        session: Some(text(alloc, "s1")?),
+    })
+}
+
+fn fault(alloc: Global) -> Result<FileFault, Fail> {
+    Ok(FileFault {
+        file: text(alloc, "/f")?,
+        kind: text(alloc, "TooLong")?,
+        at: 3,
+    })
+}
+
+#[test]
+fn rows_are_copied(rt: HostRuntime) -> Result<(), Fail> {
+    let alloc = rt.alloc();
+    assert!(rt; user(alloc)?.try_copy()?.gids.len() == 2);
+    assert!(rt; group(alloc)?.try_copy()?.label.bytes() == b"unix-group:w".as_slice());
+    assert!(rt; session(alloc)?.try_copy()?.id.bytes() == b"s1".as_slice());
+    assert!(rt; process(alloc)?.try_copy()?.session.is_some());
+    assert!(rt; fault(alloc)?.try_copy()?.at == 3);
+    Ok(())
+}
+
+#[test]
+fn loads_are_copied(rt: HostRuntime) -> Result<(), Fail> {
+    let copy = load(rt.alloc())?.try_copy()?;
+    assert!(rt; copy.policy.actions.len() == 1);
+    assert!(rt; copy.policy.entries.len() == 1);
+    assert!(rt; copy.policy.admins.len() == 1);
+    assert!(rt; copy.world.processes.is_empty());
+    Ok(())
+}
