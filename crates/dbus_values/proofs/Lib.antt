@@ -1,0 +1,4 @@
+pub mod Loops
+pub mod Texts
+pub mod Stack
+pub mod Steps
