@@ -10,6 +10,10 @@ use Rattle.dbus_values.specs.declared.fault.Fault.{Fault}
 use Rattle.dbus_values.specs.declared.fault.FaultKind.TheVariants as fault
 use Rattle.dbus_values.specs.Reading.{Spot, bad, spot_at}
 use Rattle.dbus_values.specs.Basics.{zeros}
+use Rattle.dbus_values.specs.Reading.{◌>>=◌}
+use Rattle.dbus_values.specs.Opened.{Open}
+use Rattle.dbus_values.specs.Walk.{State, state, walk, walked, is_done, next_in}
+use Rattle.dbus_values.specs.Header.{Header, field_at, fields_at}
 
 pub down : (n i : ℕ) → i < n → n - i ≡ suc (n - (i + 1))
 down n i lt = omega arith
@@ -99,3 +103,36 @@ zeros_take (suc n) at (b ∷ bytes) p e = go (eqb b 0) (zeros_take n (at + 1) by
   go : (t : Bool) → (zeros n (at + 1) bytes ≡ Ok p → (p.at ≡ at + 1 + n) × (length p.rest + n ≡ length bytes)) → cond t (zeros n (at + 1) bytes) (bad fault.Padding at) ≡ Ok p → (p.at ≡ at + suc n) × (length p.rest + suc n ≡ length (b ∷ bytes))
   go true ih f = let h = ih f in (omega (arith, h.0), omega (arith, h.1))
   go false ih f = absurd cc
+
+-- one more field
+pub fields_step : (n i : ℕ) (big : Bool) (h : Header) (at : ℕ) (bytes : List ℕ) → i < n → eqb (length bytes) 0 ≡ false → fields_at (n - i) big h at bytes ≡ (field_at big h at bytes >>= λ x. fields_at (n - (i + 1)) big x.0 x.1.at x.1.rest)
+unfolding fields_at
+fields_step n i big h at bytes lt long = let k : n - i ≡ suc (n - (i + 1)) = omega arith in rw (k, long) refl
+
+pub fields_end : (n : ℕ) (big : Bool) (h : Header) (at : ℕ) (bytes : List ℕ) → eqb (length bytes) 0 ≡ true → fields_at n big h at bytes ≡ Ok h
+unfolding fields_at
+fields_end zero big h at bytes none = rw none refl
+fields_end (suc n) big h at bytes none = rw none refl
+
+pub fields_left : (n i : ℕ) (big : Bool) (h : Header) (at : ℕ) (bytes : List ℕ) → n ≤ i → eqb (length bytes) 0 ≡ false → fields_at (n - i) big h at bytes ≡ bad fault.Length at
+unfolding fields_at
+fields_left n i big h at bytes le long = let k : n - i ≡ 0 = omega arith in rw (k, long) refl
+
+pub ruleset fields_rules = (fields_step, fields_end, fields_left)
+
+-- one more part
+pub walk_step : (n i limit : ℕ) (big : Bool) (fs : List Open) (types : List ℕ) (at : ℕ) (rest : List ℕ) → i < n → is_done (state fs types at rest) ≡ false
+    → walk (n - i) i limit big (state fs types at rest) ≡ (next_in limit big fs types at rest >>= λ x. walk (n - (i + 1)) (i + 1) limit big x.1)
+unfolding walk
+walk_step n i limit big fs types at rest lt more = let k : n - i ≡ suc (n - (i + 1)) = omega arith in rw (k, more) refl
+
+pub walk_end : (n i limit : ℕ) (big : Bool) (fs : List Open) (types : List ℕ) (at : ℕ) (rest : List ℕ) → i < n → is_done (state fs types at rest) ≡ true
+    → walk (n - i) i limit big (state fs types at rest) ≡ Ok (walked i (spot_at at rest))
+unfolding walk
+walk_end n i limit big fs types at rest lt done = let k : n - i ≡ suc (n - (i + 1)) = omega arith in rw (k, done) refl
+
+pub walk_left : (n i limit : ℕ) (big : Bool) (fs : List Open) (types : List ℕ) (at : ℕ) (rest : List ℕ) → n ≤ i → walk (n - i) i limit big (state fs types at rest) ≡ bad fault.Length at
+unfolding walk
+walk_left n i limit big fs types at rest le = let k : n - i ≡ 0 = omega arith in rw k refl
+
+pub ruleset walk_rules = (walk_step, walk_end, walk_left)

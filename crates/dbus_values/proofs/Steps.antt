@@ -1,5 +1,5 @@
 -- What the steps of a walk compute, in the terms that the code tests.
-use Rattle.std.proofs.Common.{◌≡◌, ℕ, zero, suc, ◌+◌, ◌-◌, ◌<◌, ◌≤◌, List, [], ◌∷◌, length, get_or, drop, Bool, true, false, eqb, Result, Ok, Err, Option, None, Some, refl, sym, ◌∙◌, arith}
+use Rattle.std.proofs.Common.{◌≡◌, ℕ, zero, suc, ◌+◌, ◌-◌, ◌<◌, ◌≤◌, List, [], ◌∷◌, length, get_or, drop, Bool, true, false, eqb, Result, Ok, Err, Option, None, Some, refl, sym, ap, ◌∙◌, arith}
 use Rattle.std.specs.Prelude.{◌==◌, ◌||◌, nat_lt, if◌then◌else◌}
 use Rattle.dbus_values.specs.declared.class.Class.{Class}
 use Rattle.dbus_values.specs.declared.fault.Fault.{Fault}
@@ -11,7 +11,8 @@ use Rattle.dbus_values.specs.Opened.{Open, innermost, outer}
 use Rattle.dbus_values.specs.Opened as open_part
 use Rattle.dbus_values.specs.Types.{class_of, align_of, is_basic}
 use Rattle.dbus_values.specs.Basics.{pad}
-use Rattle.dbus_values.specs.Walk.{State, state, resume, resumed, enter, enter_by, enter_entry, enter_item, in_members, in_key, in_closing, in_items, next_in, step, parts, Lasts}
+use Rattle.dbus_values.specs.Walk.{State, state, resume, resumed, enter, enter_by, enter_entry, enter_item, in_members, in_key, in_closing, in_items, next_in, step, parts, Lasts, Walked, walked, walk, is_done, values_at, most_parts}
+use Rattle.dbus_values.specs.Messages.{body_at}
 
 pub resume_none : (fs : List Open) (types : List ℕ) (at : ℕ) → None ≡ innermost fs → resume fs types at ≡ Ok (fs, types)
 unfolding resume
@@ -146,6 +147,47 @@ next_open limit big [] f sig at bytes is = absurd cc
 next_open limit big (g ∷ fs) f sig at bytes is = let e : f ≡ g = cc in rw e refl
 
 pub ruleset next_rules = (next_none, next_open, with_outer, length-outer)
+
+pub parts_none : (n limit : ℕ) (big : Bool) (s : State) → n ≡ 0 → parts n limit big s ≡ []
+unfolding parts
+parts_none zero limit big s is = refl
+parts_none (suc n) limit big s is = absurd (omega arith)
+
+-- a walk that comes to its end has as many parts as it counts
+pub lasts_walk : (n so_far limit : ℕ) (big : Bool) (s : State) (w : Walked) → walk n so_far limit big s ≡ Ok w → (so_far ≤ w.parts) × Lasts (w.parts - so_far) limit big s
+unfolding walk Lasts
+lasts_walk zero so_far limit big s w is = absurd cc
+lasts_walk (suc n) so_far limit big s w is = go (λ t. lasts_walk n (so_far + 1) limit big t w) (is_done s) is where
+  on : ((t : State) → walk n (so_far + 1) limit big t ≡ Ok w → (so_far + 1 ≤ w.parts) × Lasts (w.parts - (so_far + 1)) limit big t)
+      → (r : Result (Piece × State) Fault) → step limit big s ≡ r → (r >>= λ x. walk n (so_far + 1) limit big x.1) ≡ Ok w → (so_far ≤ w.parts) × Lasts (w.parts - so_far) limit big s
+  on ih (Err e) stepped h = absurd cc
+  on ih (Ok x) stepped h =
+      let rest = ih x.1 h in
+      let k : w.parts - so_far ≡ suc (w.parts - (so_far + 1)) = omega (arith, rest.0) in
+      (omega (arith, rest.0), rw (k, stepped) rest.1)
+  ended : ◌≡◌ {A = Result Walked Fault} (Ok (walked so_far (spot_at s.at s.rest))) (Ok w) → so_far ≡ w.parts
+  ended h = let same : walked so_far (spot_at s.at s.rest) ≡ w = cc in ap (λ (v : Walked). v.parts) same
+  go : ((t : State) → walk n (so_far + 1) limit big t ≡ Ok w → (so_far + 1 ≤ w.parts) × Lasts (w.parts - (so_far + 1)) limit big t)
+      → (b : Bool) → (if b then Ok (record { parts = so_far; at = s.at; rest = s.rest }) else (step limit big s >>= λ x. walk n (so_far + 1) limit big x.1)) ≡ Ok w → (so_far ≤ w.parts) × Lasts (w.parts - so_far) limit big s
+  go ih true h =
+      let e : so_far ≡ w.parts = ended h in
+      let k : w.parts - so_far ≡ 0 = omega (arith, e) in
+      (omega (arith, e), rw k tt)
+  go ih false h = on ih (step limit big s) refl h
+
+pub lasts_whole : (big : Bool) (sig : List ℕ) (at : ℕ) (rest : List ℕ) (n : ℕ) → body_at big sig at rest ≡ Ok n → Lasts n 64 big (state [] sig at rest)
+unfolding body_at
+lasts_whole big sig at rest n is = on (values_at 64 big sig at rest) refl is where
+  on : (r : Result Walked Fault) → values_at 64 big sig at rest ≡ r → (r >>= λ w. if length w.rest == 0 then Ok w.parts else bad fault.Length w.at) ≡ Ok n → Lasts n 64 big (state [] sig at rest)
+  on (Err e) read h = absurd cc
+  on (Ok w) read h = go (eqb (length w.rest) 0) h where
+    go : (b : Bool) → (if b then Ok w.parts else bad fault.Length w.at) ≡ Ok n → Lasts n 64 big (state [] sig at rest)
+    go true same =
+        let e : w.parts ≡ n = cc in
+        let all = lasts_walk most_parts 0 64 big (state [] sig at rest) w read in
+        let k : w.parts - 0 ≡ n = omega (arith, e) in
+        rw k at all.1
+    go false same = absurd cc
 
 -- the next part, and those behind it
 pub parts_more : (n limit : ℕ) (big : Bool) (s t : State) (p : Piece) → (n ≡ 0 → ⊥) → step limit big s ≡ Ok (p, t) → parts n limit big s ≡ p ∷ parts (n - 1) limit big t

@@ -133,6 +133,9 @@ pub record Walked : Type 0 where
   pub at : ℕ
   pub rest : List ℕ
 
+abbrev pub walked : ℕ → Spot → Walked
+walked n s = record { parts = n; at = s.at; rest = s.rest }
+
 -- The walk to its end, of at most n more parts.
 unfoldable pub walk : ℕ → ℕ → ℕ → Bool → State → Result Walked Fault
 walk zero so_far limit big s = bad fault.Length s.at

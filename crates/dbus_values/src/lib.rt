@@ -6,14 +6,24 @@
 #![tactic(auto)]
 
 mod basics;
+mod bodies;
 mod class;
 mod cursor;
 mod fault;
+mod fields;
 mod frames;
+mod header;
+mod message;
 mod part;
+mod parts;
 mod signature;
+mod start;
 mod strings;
 mod walk;
+mod wire_message;
 
 pub use fault::FaultKind;
+pub use message::{Next, next_message};
 pub use part::Part;
+pub use parts::Parts;
+pub use wire_message::WireMessage;

@@ -2,10 +2,10 @@
 ghost use Rattle.std.specs.Prelude.{◌≡◌, ◌<◌, ◌≤◌, ◌+◌, ◌-◌, ◌∷◌, [], Ok, Err, MatchResult, length, take};
 ghost use Rattle.std.specs.Option.{option_map};
 ghost use Rattle.dbus_values.specs.Reading.{Gives};
-ghost use Rattle.dbus_values.specs.Parts.{piece};
+ghost use Rattle.dbus_values.specs.Parts.{piece, spot};
 ghost use Rattle.dbus_values.specs.Opened as opened_part;
 ghost use Rattle.dbus_values.specs.Signatures.{after_item, after_type};
-ghost use Rattle.dbus_values.specs.Walk.{State, state, rest_of, resume, resumed, enter_array, enter_variant, enter_by, enter, enter_entry, enter_item, in_items, in_members, in_key, in_closing, next_in};
+ghost use Rattle.dbus_values.specs.Walk.{State, state, rest_of, resume, resumed, enter_array, enter_variant, enter_by, enter, enter_entry, enter_item, in_items, in_members, in_key, in_closing, next_in, walked, values_at};
 ghost use Rattle.dbus_values.specs.Opened.{innermost, outer};
 
 use crate::basics::{gap, pad, u32_at};
@@ -436,4 +436,33 @@ pub fn next_in<'a>(
             Frame::Inner { .. } => enter(limit, big, frames, sig, from),
         },
     }
+}
+
+/// More parts than any message has.
+const MOST_PARTS: usize = 4294967296;
+
+/// How many parts the values of a signature have, inside which at most `limit` containers stand,
+/// and what follows them.
+#[tactic(auto, using(crate::proofs::Loops::walk_rules))]
+pub fn values_at<'a>(
+    limit: usize,
+    big: bool,
+    signature: &'a [u8],
+    from: Cursor<'a>,
+) -> Result<(usize, Cursor<'a>), Fault>
+    requires { limit ≤ 64 }
+    ensures exact { Gives (λ x. walked x.0 (spot x.1)) result (values_at limit big signature.now from.entry.at from.entry.rest.now) }
+{
+    let mut frames = Frames::new();
+    let mut types = signature;
+    let mut here = from;
+    for i in 0..MOST_PARTS {
+        if frames.len() == 0 && types.len() == 0 {
+            return Ok((i, here));
+        }
+        let (_, left, after) = next_in(limit, big, &mut frames, types, here)?;
+        types = left;
+        here = after;
+    }
+    Err(Fault::new(FaultKind::Length, here.at))
 }
