@@ -2,3 +2,5 @@ pub mod Loops
 pub mod Texts
 pub mod Stack
 pub mod Steps
+pub mod Numbers
+pub mod Leaves

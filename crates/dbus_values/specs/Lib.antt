@@ -9,3 +9,4 @@ pub mod Header
 pub mod Messages
 pub mod Starts
 pub mod Next
+pub mod Trees

@@ -27,3 +27,6 @@ pub use message::{Next, next_message};
 pub use part::Part;
 pub use parts::Parts;
 pub use wire_message::WireMessage;
+
+#[cfg(test)]
+mod tests;
