@@ -4,3 +4,4 @@ pub mod Stack
 pub mod Steps
 pub mod Numbers
 pub mod Leaves
+pub mod Walking
