@@ -5,3 +5,4 @@ pub mod Steps
 pub mod Numbers
 pub mod Leaves
 pub mod Walking
+pub mod Grammar

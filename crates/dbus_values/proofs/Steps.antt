@@ -11,7 +11,7 @@ use Rattle.dbus_values.specs.Opened.{Open, innermost, outer}
 use Rattle.dbus_values.specs.Opened as open_part
 use Rattle.dbus_values.specs.Types.{class_of, align_of, is_basic}
 use Rattle.dbus_values.specs.Basics.{pad}
-use Rattle.dbus_values.specs.Walk.{State, state, resume, resumed, enter, enter_by, enter_entry, enter_item, in_members, in_key, in_closing, in_items, next_in, step, parts, Lasts, Walked, walked, walk, is_done, values_at, most_parts}
+use Rattle.dbus_values.specs.Walk.{State, state, resume, resumed, enter, enter_by, enter_struct, enter_entry, enter_item, in_members, in_key, in_closing, in_items, next_in, step, parts, Lasts, Walked, walked, walk, is_done, values_at, most_parts}
 use Rattle.dbus_values.specs.Messages.{body_at}
 
 pub resume_none : (fs : List Open) (types : List ℕ) (at : ℕ) → None ≡ innermost fs → resume fs types at ≡ Ok (fs, types)
@@ -83,6 +83,19 @@ enter_at limit big fs [] at bytes e = absurd (omega arith)
 enter_at limit big fs (c ∷ sig) at bytes e = refl
 
 pub ruleset enter_rules = (enter_none, enter_at)
+
+pub struct_none : (fs : List Open) (sig : List ℕ) (at : ℕ) (bytes : List ℕ) → length sig ≡ 0 → enter_struct fs sig at bytes ≡ bad fault.Text at
+unfolding enter_struct
+struct_none fs [] at bytes e = refl
+struct_none fs (c ∷ sig) at bytes e = absurd (omega arith)
+
+pub struct_at : (fs : List Open) (sig : List ℕ) (at : ℕ) (bytes : List ℕ) → 1 ≤ length sig
+    → enter_struct fs sig at bytes ≡ (if get_or sig 0 0 == 41 then bad fault.Text at else Ok (part.Enter 40, state (open_part.Members ∷ fs) sig at bytes))
+unfolding enter_struct
+struct_at fs [] at bytes e = absurd (omega arith)
+struct_at fs (c ∷ sig) at bytes e = refl
+
+pub ruleset struct_rules = (struct_none, struct_at)
 
 pub item_none : (limit : ℕ) (big : Bool) (fs : List Open) (sig : List ℕ) (at : ℕ) (bytes : List ℕ) → length sig ≡ 0 → enter_item limit big fs sig at bytes ≡ bad fault.Text at
 item_none limit big fs [] at bytes e = refl

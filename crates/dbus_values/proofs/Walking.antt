@@ -14,7 +14,7 @@ use Rattle.dbus_values.specs.Opened as open_part
 use Rattle.dbus_values.specs.Types.{class_of, align_of, is_basic}
 use Rattle.dbus_values.specs.Signatures.{after_item, after_type, is_signature, item_align}
 use Rattle.dbus_values.specs.Basics.{gap, zeros, pad, leaf_at}
-use Rattle.dbus_values.specs.Walk.{State, state, resume, resumed, enter, enter_by, enter_array, enter_variant, enter_entry, enter_item, in_items, in_members, in_key, in_closing, next_in, step, parts, Lasts}
+use Rattle.dbus_values.specs.Walk.{State, state, resume, resumed, enter, enter_by, enter_array, enter_struct, enter_variant, enter_entry, enter_item, in_items, in_members, in_key, in_closing, next_in, step, parts, Lasts}
 use Rattle.dbus_values.specs.Trees.{Tree, Trees, type_of, types_of, pieces, all_pieces, bytes_of, padding, number_bytes, text_bytes, marshalled, all_marshalled, IsNumber, IsString, IsBasic, IsItem, Each, HasOne, FitsAs, Fits, AllFit, Number, Text, Array, Struct, Entry, Variant, none, more}
 use Rattle.dbus_values.proofs.Numbers.{length-padding, zeros_again, number_again, sig_again, wide16, wide32, wide64}
 use Rattle.dbus_values.proofs.Leaves.{number_leaf, string_leaf}
@@ -223,11 +223,23 @@ members_walk d limit big ih (more t ts) fits fs types rest at gs left deep lt go
     let parts_are : (pieces t ++ all_pieces ts) ++ part.Leave 40 ∷ [] ≡ pieces t ++ (all_pieces ts ++ part.Leave 40 ∷ []) = append_assoc (pieces t) (all_pieces ts) (part.Leave 40 ∷ []) in
     rw (r1, r2, parts_are, size) joined
 
-struct_enters : (d limit : ℕ) (big : Bool) (ih : Enters d limit big) (ts : Trees) → Each (FitsAs false d) ts → (fs : List Open) (types rest : List ℕ) (at : ℕ) (gs : List Open) (left : List ℕ) → length fs + suc d ≤ limit → length (marshalled big at (Struct ts)) < 2 ^ 32
+-- a structure begins where no `)` stands
+struct_begin : (d : ℕ) (fs : List Open) (ts : Trees) (types : List ℕ) (at : ℕ) (bytes : List ℕ) → HasOne ts → Each (FitsAs false d) ts
+    → enter_struct fs (types_of ts ++ 41 ∷ types) at bytes ≡ Ok (part.Enter 40, state (open_part.Members ∷ fs) (types_of ts ++ 41 ∷ types) at bytes)
+unfolding enter_struct FitsAs
+struct_begin d fs none types at bytes one fits = absurd one
+struct_begin d fs (more (Number c n) ts) types at bytes one fits = rw (other_letter c 41 (λ k. IsNumber k n) fits.0 (λ h. h)) refl
+struct_begin d fs (more (Text c t) ts) types at bytes one fits = rw (other_letter c 41 (λ k. IsString k t) fits.0 (λ h. h)) refl
+struct_begin d fs (more (Array sig us) ts) types at bytes one fits = refl
+struct_begin d fs (more (Struct us) ts) types at bytes one fits = refl
+struct_begin d fs (more (Entry k v) ts) types at bytes one fits = refl
+struct_begin d fs (more (Variant t) ts) types at bytes one fits = refl
+
+struct_enters : (d limit : ℕ) (big : Bool) (ih : Enters d limit big) (ts : Trees) → HasOne ts → Each (FitsAs false d) ts → (fs : List Open) (types rest : List ℕ) (at : ℕ) (gs : List Open) (left : List ℕ) → length fs + suc d ≤ limit → length (marshalled big at (Struct ts)) < 2 ^ 32
     → resume fs types (at + length (marshalled big at (Struct ts))) ≡ Ok (gs, left)
     → Begins limit big (enter limit big fs (type_of (Struct ts) ++ types) at (marshalled big at (Struct ts) ++ rest)) (pieces (Struct ts)) (state gs left (at + length (marshalled big at (Struct ts))) rest)
 unfolding enter
-struct_enters d limit big ih ts fits fs types rest at gs left deep lt go =
+struct_enters d limit big ih ts one fits fs types rest at gs left deep lt go =
     let here = at + gap 8 at in
     let inside = all_marshalled big here ts in
     let all = length-append (padding (gap 8 at)) inside in
@@ -237,7 +249,7 @@ struct_enters d limit big ih ts fits fs types rest at gs left deep lt go =
     let r1 : (padding (gap 8 at) ++ inside) ++ rest ≡ padding (gap 8 at) ++ (inside ++ rest) = append_assoc (padding (gap 8 at)) inside rest in
     let on : resume fs types (here + length inside) ≡ Ok (gs, left) = subst (λ (q : ℕ). resume fs types q ≡ Ok (gs, left)) size go in
     let walk = members_walk d limit big ih ts fits fs types rest here gs left (omega arith) (omega (arith, all)) on in
-    (state (open_part.Members ∷ fs) (types_of ts ++ 41 ∷ types) here (inside ++ rest), rw (r0, r1, zeros_again (gap 8 at) at (inside ++ rest), room) refl, rw size walk)
+    (state (open_part.Members ∷ fs) (types_of ts ++ 41 ∷ types) here (inside ++ rest), rw (r0, r1, zeros_again (gap 8 at) at (inside ++ rest), room) (struct_begin d fs ts types here (inside ++ rest) one fits), rw size walk)
 
 -- ---- arrays
 
@@ -396,14 +408,14 @@ both_enter (suc d) limit big = (value (both_enter d limit big), item (both_enter
   value ih (Number c n) fits fs types rest at gs left deep lt go = number_enters d limit big c n fits fs types rest at gs left go
   value ih (Text c t) fits fs types rest at gs left deep lt go = text_enters d limit big c t fits fs types rest at gs left lt go
   value ih (Array sig ts) fits fs types rest at gs left deep lt go = array_enters d limit big ih.1 sig ts fits.0 fits.1 fs types rest at gs left deep lt go
-  value ih (Struct ts) fits fs types rest at gs left deep lt go = struct_enters d limit big ih.0 ts fits.1 fs types rest at gs left deep lt go
+  value ih (Struct ts) fits fs types rest at gs left deep lt go = struct_enters d limit big ih.0 ts fits.0 fits.1 fs types rest at gs left deep lt go
   value ih (Entry k v) fits fs types rest at gs left deep lt go = absurd fits
   value ih (Variant t) fits fs types rest at gs left deep lt go = variant_enters d limit big ih.0 t fits.0 fits.1 fits.2 fs types rest at gs left deep lt go
   item : Enters d limit big × EntersItem d limit big → EntersItem (suc d) limit big
   item ih (Number c n) fits fs rest at deep lt still = value_item limit big (Number c n) fs at rest (item_letter limit big fs c at _ (other_letter c 123 (λ k. IsNumber k n) fits (λ h. h))) (number_enters d limit big c n fits fs [] rest at fs [] (still _))
   item ih (Text c t) fits fs rest at deep lt still = value_item limit big (Text c t) fs at rest (item_letter limit big fs c at _ (other_letter c 123 (λ k. IsString k t) fits (λ h. h))) (text_enters d limit big c t fits fs [] rest at fs [] lt (still _))
   item ih (Array sig ts) fits fs rest at deep lt still = value_item limit big (Array sig ts) fs at rest refl (array_enters d limit big ih.1 sig ts fits.0 fits.1 fs [] rest at fs [] deep lt (still _))
-  item ih (Struct ts) fits fs rest at deep lt still = value_item limit big (Struct ts) fs at rest refl (struct_enters d limit big ih.0 ts fits.1 fs [] rest at fs [] deep lt (still _))
+  item ih (Struct ts) fits fs rest at deep lt still = value_item limit big (Struct ts) fs at rest refl (struct_enters d limit big ih.0 ts fits.0 fits.1 fs [] rest at fs [] deep lt (still _))
   item ih (Entry k v) fits fs rest at deep lt still = entry_enters d limit big ih.0 k v fits.0 fits.1 fits.2 fs rest at deep lt still
   item ih (Variant t) fits fs rest at deep lt still = value_item limit big (Variant t) fs at rest refl (variant_enters d limit big ih.0 t fits.0 fits.1 fits.2 fs [] rest at fs [] deep lt (still _))
 

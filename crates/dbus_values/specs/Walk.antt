@@ -55,6 +55,11 @@ enter_array big fs sig at bytes = do
     p ← pad (item_align sig) n.1.at n.1.rest
     Ok (part.Enter 97, state (open_part.Items (take (length sig - length end) sig) end (p.at + n.0) (drop n.0 p.rest) ∷ fs) [] p.at (take n.0 p.rest)))
 
+-- the beginning of a structure, which has at least one member
+unfoldable pub enter_struct : List Open → List ℕ → ℕ → List ℕ → Result (Piece × State) Fault
+enter_struct fs [] at bytes = bad fault.Text at
+enter_struct fs (c ∷ sig) at bytes = if c == 41 then bad fault.Text at else Ok (part.Enter 40, state (open_part.Members ∷ fs) (c ∷ sig) at bytes)
+
 -- the signature of a variant, which is one complete type
 unfoldable pub enter_variant : List Open → List ℕ → ℕ → List ℕ → Result (Piece × State) Fault
 enter_variant fs sig at bytes = do
@@ -65,7 +70,7 @@ enter_variant fs sig at bytes = do
 -- the first part of a value from its first byte, by the class of its type code
 abbrev pub enter_by : Class → ℕ → Bool → List Open → ℕ → List ℕ → ℕ → List ℕ → Result (Piece × State) Fault
 enter_by class.Array limit big fs c sig at bytes = if nat_lt (length fs) limit then enter_array big fs sig at bytes else bad fault.Depth at
-enter_by class.Struct limit big fs c sig at bytes = if nat_lt (length fs) limit then Ok (part.Enter 40, state (open_part.Members ∷ fs) sig at bytes) else bad fault.Depth at
+enter_by class.Struct limit big fs c sig at bytes = if nat_lt (length fs) limit then enter_struct fs sig at bytes else bad fault.Depth at
 enter_by class.Variant limit big fs c sig at bytes = if nat_lt (length fs) limit then enter_variant fs sig at bytes else bad fault.Depth at
 enter_by class.Entry limit big fs c sig at bytes = bad fault.Text at
 enter_by class.Other limit big fs c sig at bytes = bad fault.Text at

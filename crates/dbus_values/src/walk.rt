@@ -5,7 +5,7 @@ ghost use Rattle.dbus_values.specs.Reading.{Gives};
 ghost use Rattle.dbus_values.specs.Parts.{piece, spot};
 ghost use Rattle.dbus_values.specs.Opened as opened_part;
 ghost use Rattle.dbus_values.specs.Signatures.{after_item, after_type};
-ghost use Rattle.dbus_values.specs.Walk.{State, state, rest_of, resume, resumed, enter_array, enter_variant, enter_by, enter, enter_entry, enter_item, in_items, in_members, in_key, in_closing, next_in, walked, values_at};
+ghost use Rattle.dbus_values.specs.Walk.{State, state, rest_of, resume, resumed, enter_array, enter_struct, enter_variant, enter_by, enter, enter_entry, enter_item, in_items, in_members, in_key, in_closing, next_in, walked, values_at};
 ghost use Rattle.dbus_values.specs.Opened.{innermost, outer};
 
 use crate::basics::{gap, pad, u32_at};
@@ -143,6 +143,29 @@ fn enter_array<'a>(
     Ok((Part::Enter { kind: b'a' }, nothing(sig), here))
 }
 
+/// The beginning of a structure, which has at least one member.
+#[tactic(auto, using(crate::proofs::Steps::struct_rules))]
+fn enter_struct<'a>(
+    frames: &mut Frames<'a>,
+    sig: &'a [u8],
+    from: Cursor<'a>,
+) -> Result<Step<'a>, Fault>
+    requires { length frames.old < 64 }
+    ensures exact { MatchResult result
+        (λ x. enter_struct frames.old sig.now from.entry.at from.entry.rest.now ≡ Ok (piece x.0, state frames.new x.1.now x.2.at x.2.rest.now))
+        (λ e. enter_struct frames.old sig.now from.entry.at from.entry.rest.now ≡ Err e) }
+{
+    if sig.is_empty() {
+        return Err(Fault::new(FaultKind::Text, from.at));
+    }
+    if sig[0] == b')' {
+        Err(Fault::new(FaultKind::Text, from.at))
+    } else {
+        frames.push(Frame::Members);
+        Ok((Part::Enter { kind: b'(' }, sig, from))
+    }
+}
+
 /// The beginning of a variant: its signature, which is one complete type.
 #[tactic(auto, unfolding(crate::specs::Walk::enter_variant))]
 fn enter_variant<'a>(
@@ -192,8 +215,7 @@ fn enter_by<'a>(
         }
         Class::Struct => {
             if room {
-                frames.push(Frame::Members);
-                Ok((Part::Enter { kind: b'(' }, sig, from))
+                enter_struct(frames, sig, from)
             } else {
                 Err(Fault::new(FaultKind::Depth, from.at))
             }
