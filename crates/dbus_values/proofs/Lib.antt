@@ -6,3 +6,6 @@ pub mod Numbers
 pub mod Leaves
 pub mod Walking
 pub mod Grammar
+pub mod Letters
+pub mod Found
+pub mod Contained

@@ -274,7 +274,7 @@ items_walk d limit big ih item (more t ts) fits fs behind place outside at gs le
     let parts_are : (pieces t ++ all_pieces ts) ++ part.Leave 97 ∷ [] ≡ pieces t ++ (all_pieces ts ++ part.Leave 97 ∷ []) = append_assoc (pieces t) (all_pieces ts) (part.Leave 97 ∷ []) in
     rw parts_are joined
 
-item_front : (item types : List ℕ) → IsItem item → item_align (item ++ types) ≡ item_align item
+pub item_front : (item types : List ℕ) → IsItem item → item_align (item ++ types) ≡ item_align item
 item_front [] types h = absurd (nothing (h [])) where
   nothing : after_item [] ≡ Some [] → ⊥
   nothing e = cc
