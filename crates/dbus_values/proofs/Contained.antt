@@ -172,14 +172,14 @@ item_found m limit big ih d n i fs (c ∷ s) at bytes w le deep fits e = pick (e
         goes = r.goes;
       }
 
-record ItemsRead (d n limit : ℕ) (big : Bool) (item : List ℕ) (fs : List Open) (behind : List ℕ) (place : ℕ) (outside : List ℕ) (at : ℕ) (bytes : List ℕ) (w : Walked) : Type 0 where
-  trees : Trees
-  left : ℕ
-  so_far : ℕ
-  each : Each (λ t. (type_of t ≡ item) × FitsAs true d t) trees
-  bytes_are : bytes ≡ all_marshalled big at trees
-  fewer : left ≤ n
-  goes : (resume fs behind place >>= λ o. walk left so_far limit big (state o.0 o.1 place outside)) ≡ Ok w
+pub record ItemsRead (d n limit : ℕ) (big : Bool) (item : List ℕ) (fs : List Open) (behind : List ℕ) (place : ℕ) (outside : List ℕ) (at : ℕ) (bytes : List ℕ) (w : Walked) : Type 0 where
+  pub trees : Trees
+  pub left : ℕ
+  pub so_far : ℕ
+  pub each : Each (λ t. (type_of t ≡ item) × FitsAs true d t) trees
+  pub bytes_are : bytes ≡ all_marshalled big at trees
+  pub fewer : left ≤ n
+  pub goes : (resume fs behind place >>= λ o. walk left so_far limit big (state o.0 o.1 place outside)) ≡ Ok w
 
 no_bytes : (bytes : List ℕ) → eqb (length bytes) 0 ≡ true → bytes ≡ []
 no_bytes [] e = refl
@@ -211,7 +211,7 @@ items_longer d n n1 limit big item fs behind place outside at bytes w le r whole
       goes = m.goes;
     }
 
-items_found : (m limit : ℕ) (big : Bool) (ih : Finds m limit big) (k d n i : ℕ) (item : List ℕ) (fs : List Open) (behind : List ℕ) (place : ℕ) (outside : List ℕ) (at : ℕ) (bytes : List ℕ) (w : Walked) → n ≤ k → n ≤ suc m → length fs + 1 + d ≡ limit → IsBytes bytes
+pub items_found : (m limit : ℕ) (big : Bool) (ih : Finds m limit big) (k d n i : ℕ) (item : List ℕ) (fs : List Open) (behind : List ℕ) (place : ℕ) (outside : List ℕ) (at : ℕ) (bytes : List ℕ) (w : Walked) → n ≤ k → n ≤ suc m → length fs + 1 + d ≡ limit → IsBytes bytes
     → walk n i limit big (state (open_part.Items item behind place outside ∷ fs) [] at bytes) ≡ Ok w → ItemsRead d n limit big item fs behind place outside at bytes w
 unfolding in_items resume
 items_found m limit big ih zero d n i item fs behind place outside at bytes w lt le deep fits e =

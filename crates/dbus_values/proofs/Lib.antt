@@ -9,3 +9,4 @@ pub mod Grammar
 pub mod Letters
 pub mod Found
 pub mod Contained
+pub mod Finding
