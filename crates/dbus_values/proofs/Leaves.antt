@@ -39,16 +39,32 @@ regrouped b t rest = append_assoc b (t ++ 0 ∷ []) rest ∙ ap (λ (x : List �
 text_size : (big : Bool) (t : List ℕ) (at : ℕ) → at + length (bytes_of big w32 (length t) ++ (t ++ 0 ∷ [])) ≡ at + 4 + length t + 1
 text_size big t at = omega (arith, length-append (bytes_of big w32 (length t)) (t ++ 0 ∷ []), length-append t (0 ∷ []), wide32.len big (length t))
 
-pub string_leaf : (k : Class) (big : Bool) (c : ℕ) (t : List ℕ) (at : ℕ) (rest : List ℕ) → IsString k t → length t < 2 ^ 32 → leaf_at k big c at (text_bytes big k t ++ rest) ≡ Ok (part.Text c t, spot_at (at + length (text_bytes big k t)) rest)
-unfolding leaf_at string_at
-string_leaf class.Text big c t at rest is lt =
+pub string_again : (k : Class) (big : Bool) (t : List ℕ) (at : ℕ) (rest : List ℕ) → IsString k t → length t < 2 ^ 32 → string_at k big at (text_bytes big k t ++ rest) ≡ Ok (t, spot_at (at + length (text_bytes big k t)) rest)
+unfolding string_at
+string_again class.Text big t at rest is lt =
     rw (regrouped (bytes_of big w32 (length t)) t rest, text_again big t at rest lt is, text_size big t at) refl
-string_leaf class.Path big c t at rest is lt =
+string_again class.Path big t at rest is lt =
     rw (regrouped (bytes_of big w32 (length t)) t rest, text_again big t at rest lt is.0, is.1, text_size big t at) refl
-string_leaf class.Signature big c t at rest is lt =
+string_again class.Signature big t at rest is lt =
     let r : length t ∷ ((t ++ 0 ∷ []) ++ rest) ≡ length t ∷ (t ++ 0 ∷ rest) = ap (λ (x : List ℕ). length t ∷ x) (append_assoc t (0 ∷ []) rest) in
     let size : at + length (length t ∷ (t ++ 0 ∷ [])) ≡ at + 1 + length t + 1 = omega (arith, length-append t (0 ∷ [])) in
     rw (r, sig_again t rest at is, size) refl
+string_again class.Byte big t at rest is lt = absurd is
+string_again class.Half big t at rest is lt = absurd is
+string_again class.Boolean big t at rest is lt = absurd is
+string_again class.Word big t at rest is lt = absurd is
+string_again class.Long big t at rest is lt = absurd is
+string_again class.Array big t at rest is lt = absurd is
+string_again class.Struct big t at rest is lt = absurd is
+string_again class.Entry big t at rest is lt = absurd is
+string_again class.Variant big t at rest is lt = absurd is
+string_again class.Other big t at rest is lt = absurd is
+
+pub string_leaf : (k : Class) (big : Bool) (c : ℕ) (t : List ℕ) (at : ℕ) (rest : List ℕ) → IsString k t → length t < 2 ^ 32 → leaf_at k big c at (text_bytes big k t ++ rest) ≡ Ok (part.Text c t, spot_at (at + length (text_bytes big k t)) rest)
+unfolding leaf_at
+string_leaf class.Text big c t at rest is lt = rw (string_again class.Text big t at rest is lt) refl
+string_leaf class.Path big c t at rest is lt = rw (string_again class.Path big t at rest is lt) refl
+string_leaf class.Signature big c t at rest is lt = rw (string_again class.Signature big t at rest is lt) refl
 string_leaf class.Byte big c t at rest is lt = absurd is
 string_leaf class.Half big c t at rest is lt = absurd is
 string_leaf class.Boolean big c t at rest is lt = absurd is
@@ -104,26 +120,29 @@ byte_read at (b ∷ bytes) x fits e =
     let same : (b, spot_at (at + 1) bytes) ≡ x = ok_is {E = Fault} (b, spot_at (at + 1) bytes) x e in
     subst (λ (y : ℕ × Spot). Takes at (b ∷ bytes) (y.0 ∷ []) y.1 × (y.0 < 256)) same (record { split = refl; place = refl }, fits 0)
 
-string_read : (k : Class) (big : Bool) (c at : ℕ) (bytes : List ℕ) (t : List ℕ × Spot) → class_of c ≡ k → IsBytes bytes → string_at k big at bytes ≡ Ok t → Leaf big c at bytes (part.Text c t.0, t.1)
+pub string_takes : (k : Class) (big : Bool) (at : ℕ) (bytes : List ℕ) (t : List ℕ × Spot) → IsBytes bytes → string_at k big at bytes ≡ Ok t → Takes at bytes (text_bytes big k t.0) t.1 × IsString k t.0
 unfolding string_at
-string_read class.Text big c at bytes t e fits read = let r = text_takes big at bytes t fits read in text_read class.Text big c t.0 at bytes t.1 e r.1 r.0
-string_read class.Path big c at bytes t e fits read =
+string_takes class.Text big at bytes t fits read = text_takes big at bytes t fits read
+string_takes class.Path big at bytes t fits read =
     let b = bind_ok (text_at big at bytes) (λ t. cond (is_path t.0) (Ok t) (bad fault.Text at)) t read in
     let h = held_ok (is_path b.0.0) (record { kind = fault.Text; at = at }) (Ok b.0) t b.2 in
     let same : b.0 ≡ t = ok_is {E = Fault} b.0 t h.1 in
     let r = text_takes big at bytes b.0 fits b.1 in
-    subst (λ (y : List ℕ × Spot). Leaf big c at bytes (part.Text c y.0, y.1)) same (text_read class.Path big c b.0.0 at bytes b.0.1 e (r.1, h.0) r.0)
-string_read class.Signature big c at bytes t e fits read = let r = sig_takes at bytes t read in text_read class.Signature big c t.0 at bytes t.1 e r.1 r.0
-string_read class.Byte big c at bytes t e fits read = absurd cc
-string_read class.Half big c at bytes t e fits read = absurd cc
-string_read class.Boolean big c at bytes t e fits read = absurd cc
-string_read class.Word big c at bytes t e fits read = absurd cc
-string_read class.Long big c at bytes t e fits read = absurd cc
-string_read class.Array big c at bytes t e fits read = absurd cc
-string_read class.Struct big c at bytes t e fits read = absurd cc
-string_read class.Entry big c at bytes t e fits read = absurd cc
-string_read class.Variant big c at bytes t e fits read = absurd cc
-string_read class.Other big c at bytes t e fits read = absurd cc
+    subst (λ (y : List ℕ × Spot). Takes at bytes (text_bytes big class.Path y.0) y.1 × IsString class.Path y.0) same (r.0, (r.1, h.0))
+string_takes class.Signature big at bytes t fits read = sig_takes at bytes t read
+string_takes class.Byte big at bytes t fits read = absurd cc
+string_takes class.Half big at bytes t fits read = absurd cc
+string_takes class.Boolean big at bytes t fits read = absurd cc
+string_takes class.Word big at bytes t fits read = absurd cc
+string_takes class.Long big at bytes t fits read = absurd cc
+string_takes class.Array big at bytes t fits read = absurd cc
+string_takes class.Struct big at bytes t fits read = absurd cc
+string_takes class.Entry big at bytes t fits read = absurd cc
+string_takes class.Variant big at bytes t fits read = absurd cc
+string_takes class.Other big at bytes t fits read = absurd cc
+
+string_read : (k : Class) (big : Bool) (c at : ℕ) (bytes : List ℕ) (t : List ℕ × Spot) → class_of c ≡ k → IsBytes bytes → string_at k big at bytes ≡ Ok t → Leaf big c at bytes (part.Text c t.0, t.1)
+string_read k big c at bytes t e fits read = let r = string_takes k big at bytes t fits read in text_read k big c t.0 at bytes t.1 e r.1 r.0
 
 string_leaf_read : (k : Class) (big : Bool) (c at : ℕ) (bytes : List ℕ) (x : Piece × Spot) → class_of c ≡ k → IsBytes bytes → (string_at k big at bytes >>= λ t. Ok (part.Text c t.0, t.1)) ≡ Ok x → Leaf big c at bytes x
 string_leaf_read k big c at bytes x e fits read =

@@ -10,3 +10,5 @@ pub mod Letters
 pub mod Found
 pub mod Contained
 pub mod Finding
+pub mod Counting
+pub mod HeaderFields

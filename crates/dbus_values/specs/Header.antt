@@ -67,7 +67,7 @@ unfoldable pub known_field : Bool → ℕ → ℕ → Header → ℕ → List �
 known_field big start c h at bytes = do
   s ← signature_at at bytes
   if not (length s.0 == 1) || not (slice_index s.0 0 == type_code c) then bad fault.Fields start else
-    (if (c == 5) || (c == 9) then number_field big start c h s.1.at s.1.rest else text_field big c h s.1.at s.1.rest)
+    (if type_code c == 117 then number_field big start c h s.1.at s.1.rest else text_field big c h s.1.at s.1.rest)
 
 -- An unknown field behind its code: a variant, which is passed over. It stands in an array and a structure,
 -- so at most 61 containers stand inside its value.

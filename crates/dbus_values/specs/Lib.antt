@@ -10,3 +10,4 @@ pub mod Messages
 pub mod Starts
 pub mod Next
 pub mod Trees
+pub mod Form

@@ -138,7 +138,7 @@ fn known_field<'a>(
     if signature.len() != 1 || signature[0] != type_code(code) {
         return Err(Fault::new(FaultKind::Fields, start));
     }
-    if code == 5 || code == 9 {
+    if type_code(code) == b'u' {
         number_field(big, start, code, fields, rest)
     } else {
         text_field(big, code, fields, rest)
