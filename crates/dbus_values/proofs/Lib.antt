@@ -12,3 +12,4 @@ pub mod Contained
 pub mod Finding
 pub mod Counting
 pub mod HeaderFields
+pub mod Whole
