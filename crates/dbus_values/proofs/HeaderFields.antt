@@ -114,19 +114,11 @@ unknown_again : (big : Bool) (at : ℕ) (v : Tree) (rest : List ℕ) → IsUnkno
     → passed_field big at (marshalled big at (Variant v) ++ rest) ≡ Ok (spot_at (at + length (marshalled big at (Variant v))) rest)
 unfolding passed_field
 unknown_again big at v rest is le =
-    let T = type_of v in
-    let here = at + length T + 2 in
-    let m = marshalled big here v in
-    let l0 = length-append T (0 ∷ m) in
-    let r1 : (length T ∷ (T ++ (0 ∷ m))) ++ rest ≡ length T ∷ (T ++ (0 ∷ (m ++ rest))) = ap (λ (x : List ℕ). length T ∷ x) (append_assoc T (0 ∷ m) rest) in
-    let place : here ≡ at + 1 + length T + 1 = omega arith in
-    let size : here + length m ≡ at + length (length T ∷ (T ++ (0 ∷ m))) = omega (arith, l0) in
-    let all = values_again 61 big (more v none) here rest (omega arith) (is.2, tt) (omega (arith, l0, length-append m [])) in
-    let all1 : values_at 61 big T here (m ++ rest) ≡ Ok (walked (length (all_pieces (more v none))) (spot_at (here + length m) rest)) =
-        subst (λ (x : List ℕ). values_at 61 big T here (x ++ rest) ≡ Ok (walked (length (all_pieces (more v none))) (spot_at (here + length x) rest))) (append-nil m)
-        (subst (λ (x : List ℕ). values_at 61 big x here ((m ++ []) ++ rest) ≡ Ok (walked (length (all_pieces (more v none))) (spot_at (here + length (m ++ [])) rest))) (append-nil T) all) in
-    let all2 : values_at 61 big T (at + 1 + length T + 1) (m ++ rest) ≡ Ok (walked (length (all_pieces (more v none))) (spot_at (here + length m) rest)) = subst (λ (q : ℕ). values_at 61 big T q (m ++ rest) ≡ Ok (walked (length (all_pieces (more v none))) (spot_at (here + length m) rest))) place all1 in
-    rw (r1, sig_again T (m ++ rest) at is.0, is.1, all2, size) refl
+    let m = marshalled big at (Variant v) in
+    let n = length (all_pieces (more (Variant v) none)) in
+    let all = values_again 62 big (more (Variant v) none) at rest (omega arith) (is, tt) (omega (arith, length-append m [])) in
+    let all1 : values_at 62 big (118 ∷ []) at (m ++ rest) ≡ Ok (walked n (spot_at (at + length m) rest)) = subst (λ (x : List ℕ). values_at 62 big (118 ∷ []) at (x ++ rest) ≡ Ok (walked n (spot_at (at + length x) rest))) (append-nil m) all in
+    rw all1 refl
 
 pub field_again : (big : Bool) (h : Header) (at : ℕ) (f : Field) (rest : List ℕ) → IsField h f → length (field_bytes big at f) ≤ 16777216 → field_at big h at (field_bytes big at f ++ rest) ≡ Ok (put h f, spot_at (at + length (field_bytes big at f)) rest)
 unfolding field_at byte_at

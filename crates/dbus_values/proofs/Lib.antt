@@ -13,3 +13,4 @@ pub mod Finding
 pub mod Counting
 pub mod HeaderFields
 pub mod Whole
+pub mod HeaderFound

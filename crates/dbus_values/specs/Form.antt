@@ -2,7 +2,6 @@
 use Rattle.std.specs.Prelude.{◌≡◌, ℕ, ◌+◌, ◌<◌, ◌≤◌, ◌^◌, nat_lt, Bool, true, false, if◌then◌else◌, List, [], ◌∷◌, ◌++◌, length, take, Option, Some, None, ◌⊎◌}
 use Rattle.std.specs.Int.{w32}
 use Rattle.dbus_values.specs.Types.{class_of, align_of}
-use Rattle.dbus_values.specs.Signatures.{after_type, is_signature}
 use Rattle.dbus_values.specs.Basics.{gap}
 use Rattle.dbus_values.specs.Header.{Header, no_fields, has, put_text, put_number, type_code, lacks}
 use Rattle.dbus_values.specs.Messages.{signature_of}
@@ -48,9 +47,9 @@ IsKnown code (Number c n) = (c ≡ 117) × (type_code code ≡ 117) × (n < 2 ^ 
 IsKnown code (Text c t) = (c ≡ type_code code) × IsString (class_of c) t
 IsKnown code _ = ⊥
 
--- the value of an unknown field: any value of one complete type, inside which 61 containers may stand
+-- the value of an unknown field: that of any variant, which stands in an array and a structure
 abbrev pub IsUnknown : Tree → Type 0
-IsUnknown t = (is_signature (type_of t) ≡ true) × (after_type (type_of t) ≡ Some []) × FitsAs false 61 t
+IsUnknown t = FitsAs false 62 (Variant t)
 
 -- the header with one more field
 abbrev pub put_value : Header → ℕ → Tree → Header

@@ -7,9 +7,8 @@ use Rattle.dbus_values.specs.declared.fault.FaultKind.TheVariants as fault
 use Rattle.dbus_values.specs.declared.fields.Fields.{Fields}
 use Rattle.dbus_values.specs.Reading.{◌>>=◌, bad, Spot, spot_at}
 use Rattle.dbus_values.specs.Types.{class_of, align_of}
-use Rattle.dbus_values.specs.Signatures.{after_type}
 use Rattle.dbus_values.specs.Basics.{pad, byte_at, number_at, string_at, signature_at}
-use Rattle.dbus_values.specs.Walk.{rest_of, values_at}
+use Rattle.dbus_values.specs.Walk.{values_at}
 
 -- the fields that a header has: the value, or for some only that the field is there
 pub record Header : Type 0 where
@@ -70,12 +69,9 @@ known_field big start c h at bytes = do
     (if type_code c == 117 then number_field big start c h s.1.at s.1.rest else text_field big c h s.1.at s.1.rest)
 
 -- An unknown field behind its code: a variant, which is passed over. It stands in an array and a structure,
--- so at most 61 containers stand inside its value.
+-- so at most 62 more containers stand inside each other, the variant too.
 unfoldable pub passed_field : Bool → ℕ → List ℕ → Result Spot Fault
-passed_field big at bytes = do
-  s ← signature_at at bytes
-  end ← rest_of (after_type s.0) at
-  if length end == 0 then (values_at 61 big s.0 s.1.at s.1.rest >>= λ w. Ok (spot_at w.at w.rest)) else bad fault.Text at
+passed_field big at bytes = values_at 62 big (118 ∷ []) at bytes >>= λ w. Ok (spot_at w.at w.rest)
 
 -- A field: no code is 0, and no known code comes twice.
 unfoldable pub field_at : Bool → Header → ℕ → List ℕ → Result (Header × Spot) Fault

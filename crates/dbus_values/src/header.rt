@@ -10,7 +10,7 @@ use crate::cursor::Cursor;
 use crate::fault::{Fault, FaultKind};
 use crate::fields::Fields;
 use crate::strings::{signature_at, string_at};
-use crate::walk::{rest_of, values_at};
+use crate::walk::values_at;
 
 impl<'a> Fields<'a> {
     /// Whether there is the field of this code.
@@ -145,19 +145,13 @@ fn known_field<'a>(
     }
 }
 
-/// An unknown field behind its code, which is passed over.
+/// An unknown field behind its code, a variant, which is passed over.
 #[tactic(auto, unfolding(crate::specs::Header::passed_field))]
 fn passed_field<'a>(big: bool, from: Cursor<'a>) -> Result<Cursor<'a>, Fault>
     ensures exact { Gives spot result (passed_field big from.entry.at from.entry.rest.now) }
 {
-    let (signature, rest) = signature_at(from)?;
-    let end = rest_of(signature, from.at)?;
-    if end.len() == 0 {
-        let (_, after) = values_at(61, big, signature, rest)?;
-        Ok(after)
-    } else {
-        Err(Fault::new(FaultKind::Text, from.at))
-    }
+    let (_, after) = values_at(62, big, b"v", from)?;
+    Ok(after)
 }
 
 /// A field.
