@@ -14,3 +14,4 @@ pub mod Counting
 pub mod HeaderFields
 pub mod Whole
 pub mod HeaderFound
+pub mod WholeFound

@@ -71,7 +71,7 @@ unfolding start_of
 start_is s bytes order kind flags body serial fields = rw (order, kind, flags, body, serial, fields) refl
 
 -- the first bytes, and what follows them
-pub first_bytes : Bool → ℕ → ℕ → ℕ → ℕ → ℕ → List ℕ → List ℕ
+unfoldable pub first_bytes : Bool → ℕ → ℕ → ℕ → ℕ → ℕ → List ℕ → List ℕ
 first_bytes big kind flags body serial fields rest = order_byte big ∷ kind ∷ flags ∷ 1 ∷ (bytes_of big w32 body ++ (bytes_of big w32 serial ++ (bytes_of big w32 fields ++ rest)))
 
 pub length-first : (big : Bool) (kind flags body serial fields : ℕ) (rest : List ℕ) → length (first_bytes big kind flags body serial fields rest) ≡ 16 + length rest
@@ -114,7 +114,7 @@ start_again big kind flags body serial fields rest kind_pos serial_pos serial_lt
 
 -- ---- the fields and the body
 
-gap_16 : (n : ℕ) → gap 8 (16 + n) ≡ gap 8 n
+pub gap_16 : (n : ℕ) → gap 8 (16 + n) ≡ gap 8 n
 gap_16 n = omega arith
 
 body_again : (big : Bool) (ts : Trees) (at : ℕ) → Each (FitsAs false 64) ts → length (all_marshalled big at ts) ≤ 16777216 → body_at big (types_of ts) at (all_marshalled big at ts) ≡ Ok (length (all_pieces ts))
