@@ -15,3 +15,4 @@ pub mod HeaderFields
 pub mod Whole
 pub mod HeaderFound
 pub mod WholeFound
+pub mod Streaming

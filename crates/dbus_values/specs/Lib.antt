@@ -11,3 +11,4 @@ pub mod Starts
 pub mod Next
 pub mod Trees
 pub mod Form
+pub mod Streams

@@ -13,6 +13,7 @@ mod fault;
 mod fields;
 mod frames;
 mod header;
+pub mod laws;
 mod message;
 mod part;
 mod parts;

@@ -1,12 +1,13 @@
 // Whole messages.
-ghost use Rattle.std.specs.Prelude.{◌≡◌, ◌+◌, ◌≤◌, ◌<◌, length, take, drop, IfOk, Ok};
+ghost use Rattle.std.specs.Prelude.{◌≡◌, ◌+◌, ◌≤◌, ◌<◌, length, take, drop, IfOk, Ok, List, ℕ, ◌++◌};
 ghost use Rattle.dbus_values.specs.Reading.{Gives};
 ghost use Rattle.dbus_values.specs.Parts.{spot};
 ghost use Rattle.dbus_values.specs.Basics.{gap};
 ghost use Rattle.dbus_values.specs.Header.{header};
 ghost use Rattle.dbus_values.specs.Messages.{total, signature_of, body_at, padded_body, message_of};
 ghost use Rattle.dbus_values.specs.Starts.{start};
-ghost use Rattle.dbus_values.specs.Next.{seen, shown, answer, next_of};
+ghost use Rattle.dbus_values.specs.Next.{Seen, Whole, seen, shown, answer, next_of};
+ghost use Rattle.dbus_values.specs.Streams.{IfWhole, IsForm};
 
 use crate::basics::{gap, pad};
 use crate::cursor::Cursor;
@@ -136,13 +137,10 @@ fn shown<'a>(first: Start, fields: &Fields<'a>, parts: usize, body: Cursor<'a>) 
     }
 }
 
-/// Reads the message at the front of the bytes, in either byte order. It takes no memory and
-/// copies nothing: the message borrows from the bytes.
-///
-/// The form is that of the D-Bus Specification, "Message Format" and "Header Fields". A message
-/// has at most 16,777,216 bytes, and at most 64 containers stand inside each other.
-pub fn next_message(bytes: &[u8]) -> Next
+/// What the bytes begin with.
+fn front_message(bytes: &[u8]) -> Next
     ensures exact { answer result ≡ next_of bytes.now }
+    ensures within { IfWhole (answer result) (λ seen used. used ≤ length bytes.now) }
 {
     let first = match start_of(bytes) {
         Ok(first) => first,
@@ -168,4 +166,22 @@ pub fn next_message(bytes: &[u8]) -> Next
             at: fault.at,
         },
     }
+}
+
+/// Reads the message at the front of the bytes, in either byte order. It takes no memory and
+/// copies nothing: the message borrows from the bytes.
+///
+/// The form is that of the D-Bus Specification, "Message Format" and "Header Fields". A message
+/// has at most 16,777,216 bytes, and at most 64 containers stand inside each other.
+pub fn next_message(bytes: &[u8]) -> Next
+    // Which answer it is, with the kind and the place of the first fault.
+    ensures exact { answer result ≡ next_of bytes.now }
+    // What is read whole has the form of a message, which is shown.
+    ensures form { IfWhole (answer result) (λ seen used. IsForm (take used bytes.now) seen) }
+    // What has the form of a message is read, whatever follows it.
+    ensures again { (text more : List ℕ) (seen : Seen) → IsForm text seen → bytes.now ≡ text ++ more → answer result ≡ Whole seen (length text) }
+    // A message lies within the bytes.
+    ensures within { IfWhole (answer result) (λ seen used. used ≤ length bytes.now) }
+{
+    front_message(bytes)
 }
