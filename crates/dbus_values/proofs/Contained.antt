@@ -24,7 +24,6 @@ use Rattle.dbus_values.proofs.Leaves.{leaf_takes}
 use Rattle.dbus_values.proofs.Walking.{enter_by_leaf, item_front}
 use Rattle.dbus_values.proofs.Grammar.{item_split}
 use Rattle.dbus_values.proofs.Letters.{array_letter, struct_letter, variant_letter}
-
 use Rattle.dbus_values.proofs.Found.{bind_bind, guard_bind, held_bind, Going, going, open_done, nothing_left, resumed_goes, Read, Got, got_read, leaf_got, Finds, Members, members_found}
 
 -- ---- dict entries
@@ -88,7 +87,7 @@ entry_from d n limit big fs sig here bytes w k v c =
     let vm = marshalled big next vt in
     let size : next + length vm ≡ here + length (km ++ vm) = omega (arith, length-append km vm) in
     let inner : sig ≡ (type_of kt ++ (type_of vt ++ 125 ∷ [])) ++ c.types =
-        k.read.sig_is ∙ ap (λ (x : List ℕ). type_of kt ++ x) (v.sig_is ∙ ap (λ (x : List ℕ). type_of vt ++ x) c.sig_is ∙ sym (append_assoc (type_of vt) (125 ∷ []) c.types)) ∙ sym (append_assoc (type_of kt) (type_of vt ++ 125 ∷ []) c.types) in
+    k.read.sig_is ∙ ap (λ (x : List ℕ). type_of kt ++ x) (v.sig_is ∙ ap (λ (x : List ℕ). type_of vt ++ x) c.sig_is ∙ sym (append_assoc (type_of vt) (125 ∷ []) c.types)) ∙ sym (append_assoc (type_of kt) (type_of vt ++ 125 ∷ []) c.types) in
     record {
       tree = Entry kt vt;
       types = c.types;
@@ -220,23 +219,23 @@ items_found m limit big ih zero d n i item fs behind place outside at bytes w lt
 items_found m limit big ih (suc k) d n i item fs behind place outside at bytes w lt le deep fits e =
     let g = going n i limit big _ w (open_done (open_part.Items item behind place outside) fs [] at bytes) e in
     pick g (λ n' i' at' bytes' lt' le' fits' e'. items_found m limit big ih k d n' i' item fs behind place outside at' bytes' w lt' le' deep fits' e') (eqb (length bytes) 0) refl g.goes where
-  pick : (g : Going n i limit big (state (open_part.Items item behind place outside ∷ fs) [] at bytes) w)
-      → ((n' i' at' : ℕ) (bytes' : List ℕ) → n' ≤ k → n' ≤ suc m → IsBytes bytes' → walk n' i' limit big (state (open_part.Items item behind place outside ∷ fs) [] at' bytes') ≡ Ok w → ItemsRead d n' limit big item fs behind place outside at' bytes' w)
-      → (b : Bool) → eqb (length bytes) 0 ≡ b → (cond b (resumed (part.Leave 97) fs behind place outside) (enter_item limit big (open_part.Items item behind place outside ∷ fs) item at bytes) >>= λ x. walk g.left (i + 1) limit big x.1) ≡ Ok w → ItemsRead d n limit big item fs behind place outside at bytes w
-  pick g again true is h = record {
-    trees = none;
-    left = g.left;
-    so_far = i + 1;
-    each = tt;
-    bytes_are = no_bytes bytes is;
-    fewer = omega (arith, g.fewer);
-    goes = resumed_goes (part.Leave 97) fs behind place outside g.left (i + 1) limit big w h;
-  }
-  pick g again false is h =
-      let F = open_part.Items item behind place outside ∷ fs in
-      let r = item_found m limit big ih d g.left (i + 1) F item at bytes w (omega (arith, g.fewer)) (omega arith) fits h in
-      let next = at + length (marshalled big at r.tree) in
-      let whole = item_whole r.left r.so_far limit big item behind place outside fs r.types next r.rest w r.goes in
-      let goes : walk r.left r.so_far limit big (state F [] next r.rest) ≡ Ok w = subst (λ (z : List ℕ). walk r.left r.so_far limit big (state F z next r.rest) ≡ Ok w) whole r.goes in
-      let rest_fits = IsBytes-rest (marshalled big at r.tree) r.rest (subst IsBytes r.bytes_are fits) in
-      items_longer d n g.left limit big item fs behind place outside at bytes w (omega (arith, g.fewer)) r whole (again r.left r.so_far next r.rest (omega (arith, g.fewer, r.fewer)) (omega (arith, g.fewer, r.fewer)) rest_fits goes)
+      pick : (g : Going n i limit big (state (open_part.Items item behind place outside ∷ fs) [] at bytes) w)
+          → ((n' i' at' : ℕ) (bytes' : List ℕ) → n' ≤ k → n' ≤ suc m → IsBytes bytes' → walk n' i' limit big (state (open_part.Items item behind place outside ∷ fs) [] at' bytes') ≡ Ok w → ItemsRead d n' limit big item fs behind place outside at' bytes' w)
+          → (b : Bool) → eqb (length bytes) 0 ≡ b → (cond b (resumed (part.Leave 97) fs behind place outside) (enter_item limit big (open_part.Items item behind place outside ∷ fs) item at bytes) >>= λ x. walk g.left (i + 1) limit big x.1) ≡ Ok w → ItemsRead d n limit big item fs behind place outside at bytes w
+      pick g again true is h = record {
+        trees = none;
+        left = g.left;
+        so_far = i + 1;
+        each = tt;
+        bytes_are = no_bytes bytes is;
+        fewer = omega (arith, g.fewer);
+        goes = resumed_goes (part.Leave 97) fs behind place outside g.left (i + 1) limit big w h;
+      }
+      pick g again false is h =
+          let F = open_part.Items item behind place outside ∷ fs in
+          let r = item_found m limit big ih d g.left (i + 1) F item at bytes w (omega (arith, g.fewer)) (omega arith) fits h in
+          let next = at + length (marshalled big at r.tree) in
+          let whole = item_whole r.left r.so_far limit big item behind place outside fs r.types next r.rest w r.goes in
+          let goes : walk r.left r.so_far limit big (state F [] next r.rest) ≡ Ok w = subst (λ (z : List ℕ). walk r.left r.so_far limit big (state F z next r.rest) ≡ Ok w) whole r.goes in
+          let rest_fits = IsBytes-rest (marshalled big at r.tree) r.rest (subst IsBytes r.bytes_are fits) in
+          items_longer d n g.left limit big item fs behind place outside at bytes w (omega (arith, g.fewer)) r whole (again r.left r.so_far next r.rest (omega (arith, g.fewer, r.fewer)) (omega (arith, g.fewer, r.fewer)) rest_fits goes)

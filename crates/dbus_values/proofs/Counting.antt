@@ -140,5 +140,5 @@ values_again d big ts at rest le each short =
     let w = walk_whole most_parts 0 d big (state [] (types_of ts) at (all_marshalled big at ts ++ rest)) (all_pieces ts) (at + L) rest (omega arith) path' in
     let k : 0 + length (all_pieces ts) ≡ length (all_pieces ts) = omega arith in
     rw k at w where
-  bounded : (d l p : ℕ) → d ≤ 64 → p ≤ (2 * d + 1) * l → p ≤ 129 * l
-  bounded d l p le few = let m : (2 * d + 1) * l ≤ 129 * l = mul-le-mul_right l (omega arith) in omega (arith, m)
+      bounded : (d l p : ℕ) → d ≤ 64 → p ≤ (2 * d + 1) * l → p ≤ 129 * l
+      bounded d l p le few = let m : (2 * d + 1) * l ≤ 129 * l = mul-le-mul_right l (omega arith) in omega (arith, m)

@@ -23,9 +23,7 @@ use Rattle.dbus_values.proofs.Leaves.{leaf_takes}
 use Rattle.dbus_values.proofs.Walking.{enter_by_leaf, item_front}
 use Rattle.dbus_values.proofs.Grammar.{item_split}
 use Rattle.dbus_values.proofs.Letters.{array_letter, struct_letter, variant_letter}
-
 use Rattle.dbus_values.proofs.Found.{bind_bind, guard_bind, held_bind, Going, going, open_done, nothing_left, resumed_goes, Read, Got, got_read, leaf_got, Finds, Members, members_found}
-
 use Rattle.dbus_values.proofs.Contained.{items_found}
 
 rest_of_ok : (o : Option (List ℕ)) (at : ℕ) (x : List ℕ) → rest_of o at ≡ Ok x → o ≡ Some x
@@ -49,48 +47,48 @@ array_got m limit big ih d n i fs sig here bytes w le deep fits e =
     let b2 = bind_bind (pad (item_align sig) from.at from.rest) (opened end count) go w h.1 in
     let q = b2.0 in
     array_read end count from q (rest_of_ok (after_item sig) here end b0.1) b1.1 (ltb-false _ _ h.0) b2.1 b2.2 where
-  array_read : (end : List ℕ) (count : ℕ) (from q : Spot) → after_item sig ≡ Some end → number_at big w32 here bytes ≡ Ok (count, from) → gap (item_align sig) from.at + count ≤ length from.rest → pad (item_align sig) from.at from.rest ≡ Ok q
-      → walk n i limit big (state (open_part.Items (take (length sig - length end) sig) end (q.at + count) (drop count q.rest) ∷ fs) [] q.at (take count q.rest)) ≡ Ok w → Got false (suc d) n limit 4 big fs (97 ∷ sig) here bytes w
-  array_read end count from q ended counted enough padded walked_on =
-      let item = take (length sig - length end) sig in
-      let s = item_split sig end ended in
-      let align : item_align sig ≡ item_align item = ap item_align s.0 ∙ item_front item end s.1 in
-      let num = number_takes big w32 (2 ^ 32) wide32 here bytes (count, from) fits counted in
-      let at_from : from.at ≡ here + 4 = omega (arith, num.0.place, wide32.len big count) in
-      let fits1 = IsBytes-rest (bytes_of big w32 count) from.rest (subst IsBytes num.0.split fits) in
-      let g = gap (item_align item) (here + 4) in
-      let gap_is : gap (item_align sig) from.at ≡ g = rw (align, at_from) refl in
-      let z = zeros_takes (gap (item_align sig) from.at) from.at from.rest q padded in
-      let split1 : from.rest ≡ padding g ++ q.rest = subst (λ (x : ℕ). from.rest ≡ padding x ++ q.rest) gap_is z.0 in
-      let at_q : q.at ≡ here + 4 + g = omega (arith, z.1, gap_is, at_from) in
-      let fits2 = IsBytes-rest (padding g) q.rest (subst IsBytes split1 fits1) in
-      let inside = take count q.rest in
-      let outside = drop count q.rest in
-      let len : length inside ≡ count = omega (arith, length-take count q.rest, ap length split1, length-append (padding g) q.rest, length-padding g, gap_is) in
-      let r = items_found m limit big ih n d n i item fs end (q.at + count) outside q.at inside w (omega arith) le deep (IsBytes-take count q.rest fits2) walked_on in
-      let form = all_marshalled big (here + 4 + g) r.trees in
-      let inside_is : inside ≡ form = r.bytes_are ∙ ap (λ (x : ℕ). all_marshalled big x r.trees) at_q in
-      let size : length form ≡ count = sym (ap length inside_is) ∙ len in
-      let content = bytes_of big w32 (length form) ++ (padding g ++ form) in
-      let all : here + length content ≡ q.at + count = omega (arith, length-append (bytes_of big w32 (length form)) (padding g ++ form), length-append (padding g) form, length-padding g, wide32.len big (length form), size, at_q) in
-      let rest_is : q.rest ≡ form ++ outside = sym (take-append-drop count q.rest) ∙ ap (λ (x : List ℕ). x ++ outside) inside_is in
-      let whole : bytes ≡ content ++ outside =
+      array_read : (end : List ℕ) (count : ℕ) (from q : Spot) → after_item sig ≡ Some end → number_at big w32 here bytes ≡ Ok (count, from) → gap (item_align sig) from.at + count ≤ length from.rest → pad (item_align sig) from.at from.rest ≡ Ok q
+          → walk n i limit big (state (open_part.Items (take (length sig - length end) sig) end (q.at + count) (drop count q.rest) ∷ fs) [] q.at (take count q.rest)) ≡ Ok w → Got false (suc d) n limit 4 big fs (97 ∷ sig) here bytes w
+      array_read end count from q ended counted enough padded walked_on =
+          let item = take (length sig - length end) sig in
+          let s = item_split sig end ended in
+          let align : item_align sig ≡ item_align item = ap item_align s.0 ∙ item_front item end s.1 in
+          let num = number_takes big w32 (2 ^ 32) wide32 here bytes (count, from) fits counted in
+          let at_from : from.at ≡ here + 4 = omega (arith, num.0.place, wide32.len big count) in
+          let fits1 = IsBytes-rest (bytes_of big w32 count) from.rest (subst IsBytes num.0.split fits) in
+          let g = gap (item_align item) (here + 4) in
+          let gap_is : gap (item_align sig) from.at ≡ g = rw (align, at_from) refl in
+          let z = zeros_takes (gap (item_align sig) from.at) from.at from.rest q padded in
+          let split1 : from.rest ≡ padding g ++ q.rest = subst (λ (x : ℕ). from.rest ≡ padding x ++ q.rest) gap_is z.0 in
+          let at_q : q.at ≡ here + 4 + g = omega (arith, z.1, gap_is, at_from) in
+          let fits2 = IsBytes-rest (padding g) q.rest (subst IsBytes split1 fits1) in
+          let inside = take count q.rest in
+          let outside = drop count q.rest in
+          let len : length inside ≡ count = omega (arith, length-take count q.rest, ap length split1, length-append (padding g) q.rest, length-padding g, gap_is) in
+          let r = items_found m limit big ih n d n i item fs end (q.at + count) outside q.at inside w (omega arith) le deep (IsBytes-take count q.rest fits2) walked_on in
+          let form = all_marshalled big (here + 4 + g) r.trees in
+          let inside_is : inside ≡ form = r.bytes_are ∙ ap (λ (x : ℕ). all_marshalled big x r.trees) at_q in
+          let size : length form ≡ count = sym (ap length inside_is) ∙ len in
+          let content = bytes_of big w32 (length form) ++ (padding g ++ form) in
+          let all : here + length content ≡ q.at + count = omega (arith, length-append (bytes_of big w32 (length form)) (padding g ++ form), length-append (padding g) form, length-padding g, wide32.len big (length form), size, at_q) in
+          let rest_is : q.rest ≡ form ++ outside = sym (take-append-drop count q.rest) ∙ ap (λ (x : List ℕ). x ++ outside) inside_is in
+          let whole : bytes ≡ content ++ outside =
           num.0.split ∙ ap (λ (x : ℕ). bytes_of big w32 x ++ from.rest) (sym size) ∙ ap (λ (x : List ℕ). bytes_of big w32 (length form) ++ x) (split1 ∙ ap (λ (x : List ℕ). padding g ++ x) rest_is ∙ sym (append_assoc (padding g) form outside))
           ∙ sym (append_assoc (bytes_of big w32 (length form)) (padding g ++ form) outside) in
-      record {
-        tree = Array item r.trees;
-        types = end;
-        content = content;
-        rest = outside;
-        left = r.left;
-        so_far = r.so_far;
-        fits = (s.1, r.each);
-        sig_is = ap (λ (x : List ℕ). 97 ∷ x) s.0;
-        form = λ start same. subst (λ (x : ℕ). marshalled big start (Array item r.trees) ≡ padding (gap 4 start) ++ (bytes_of big w32 (length (all_marshalled big (x + 4 + gap (item_align item) (x + 4)) r.trees)) ++ (padding (gap (item_align item) (x + 4)) ++ all_marshalled big (x + 4 + gap (item_align item) (x + 4)) r.trees))) same refl;
-        bytes_are = whole;
-        fewer = r.fewer;
-        goes = subst (λ (x : ℕ). (resume fs end x >>= λ o. walk r.left r.so_far limit big (state o.0 o.1 x outside)) ≡ Ok w) (sym all) r.goes;
-      }
+          record {
+            tree = Array item r.trees;
+            types = end;
+            content = content;
+            rest = outside;
+            left = r.left;
+            so_far = r.so_far;
+            fits = (s.1, r.each);
+            sig_is = ap (λ (x : List ℕ). 97 ∷ x) s.0;
+            form = λ start same. subst (λ (x : ℕ). marshalled big start (Array item r.trees) ≡ padding (gap 4 start) ++ (bytes_of big w32 (length (all_marshalled big (x + 4 + gap (item_align item) (x + 4)) r.trees)) ++ (padding (gap (item_align item) (x + 4)) ++ all_marshalled big (x + 4 + gap (item_align item) (x + 4)) r.trees))) same refl;
+            bytes_are = whole;
+            fewer = r.fewer;
+            goes = subst (λ (x : ℕ). (resume fs end x >>= λ o. walk r.left r.so_far limit big (state o.0 o.1 x outside)) ≡ Ok w) (sym all) r.goes;
+          }
 
 -- ---- structures
 
@@ -143,41 +141,41 @@ variant_got m limit big ih d n i fs sig here bytes w le deep fits e =
     let h = held_bind (eqb (length b1.0) 0) (record { kind = fault.Text; at = here }) (Ok (part.Variant s.0, state (open_part.Inner sig ∷ fs) s.0 s.1.at s.1.rest)) go w b1.2 in
     let alone : after_type s.0 ≡ Some [] = rest_of_ok (after_type s.0) here b1.0 b1.1 ∙ ap (λ (x : List ℕ). Some x) (no_types b1.0 h.0) in
     variant_read s.0 s.1 b0.1 alone h.1 where
-  variant_read : (text : List ℕ) (from : Spot) → signature_at here bytes ≡ Ok (text, from) → after_type text ≡ Some [] → walk n i limit big (state (open_part.Inner sig ∷ fs) text from.at from.rest) ≡ Ok w → Got false (suc d) n limit 1 big fs (118 ∷ sig) here bytes w
-  variant_read text from signed alone walked_on =
-      let t = sig_takes here bytes (text, from) signed in
-      let g = going n i limit big (state (open_part.Inner sig ∷ fs) text from.at from.rest) w (open_done (open_part.Inner sig) fs text from.at from.rest) walked_on in
-      let fits1 = IsBytes-rest (length text ∷ (text ++ 0 ∷ [])) from.rest (subst IsBytes t.0.split fits) in
-      let r = ih d g.left (i + 1) (open_part.Inner sig ∷ fs) text from.at from.rest w (omega (arith, g.fewer)) (omega arith) fits1 g.goes in
-      let whole = inner_whole fs sig r.types (from.at + length (marshalled big from.at r.tree)) r.left r.so_far limit big r.rest w r.goes in
-      let type_is : text ≡ type_of r.tree = r.sig_is ∙ ap (λ (x : List ℕ). type_of r.tree ++ x) whole ∙ append-nil (type_of r.tree) in
-      let place : from.at ≡ here + length (type_of r.tree) + 2 = omega (arith, t.0.place, length-append text (0 ∷ []), ap length type_is) in
-      let T = type_of r.tree in
-      let inside = marshalled big (here + length T + 2) r.tree in
-      let inside_is : marshalled big from.at r.tree ≡ inside = ap (λ (x : ℕ). marshalled big x r.tree) place in
-      let goes : (resume fs sig (from.at + length (marshalled big from.at r.tree)) >>= λ o. walk r.left r.so_far limit big (state o.0 o.1 (from.at + length (marshalled big from.at r.tree)) r.rest)) ≡ Ok w =
+      variant_read : (text : List ℕ) (from : Spot) → signature_at here bytes ≡ Ok (text, from) → after_type text ≡ Some [] → walk n i limit big (state (open_part.Inner sig ∷ fs) text from.at from.rest) ≡ Ok w → Got false (suc d) n limit 1 big fs (118 ∷ sig) here bytes w
+      variant_read text from signed alone walked_on =
+          let t = sig_takes here bytes (text, from) signed in
+          let g = going n i limit big (state (open_part.Inner sig ∷ fs) text from.at from.rest) w (open_done (open_part.Inner sig) fs text from.at from.rest) walked_on in
+          let fits1 = IsBytes-rest (length text ∷ (text ++ 0 ∷ [])) from.rest (subst IsBytes t.0.split fits) in
+          let r = ih d g.left (i + 1) (open_part.Inner sig ∷ fs) text from.at from.rest w (omega (arith, g.fewer)) (omega arith) fits1 g.goes in
+          let whole = inner_whole fs sig r.types (from.at + length (marshalled big from.at r.tree)) r.left r.so_far limit big r.rest w r.goes in
+          let type_is : text ≡ type_of r.tree = r.sig_is ∙ ap (λ (x : List ℕ). type_of r.tree ++ x) whole ∙ append-nil (type_of r.tree) in
+          let place : from.at ≡ here + length (type_of r.tree) + 2 = omega (arith, t.0.place, length-append text (0 ∷ []), ap length type_is) in
+          let T = type_of r.tree in
+          let inside = marshalled big (here + length T + 2) r.tree in
+          let inside_is : marshalled big from.at r.tree ≡ inside = ap (λ (x : ℕ). marshalled big x r.tree) place in
+          let goes : (resume fs sig (from.at + length (marshalled big from.at r.tree)) >>= λ o. walk r.left r.so_far limit big (state o.0 o.1 (from.at + length (marshalled big from.at r.tree)) r.rest)) ≡ Ok w =
           subst (λ (x : List ℕ). (resume (open_part.Inner sig ∷ fs) x (from.at + length (marshalled big from.at r.tree)) >>= λ o. walk r.left r.so_far limit big (state o.0 o.1 (from.at + length (marshalled big from.at r.tree)) r.rest)) ≡ Ok w) whole r.goes in
-      let size : from.at + length (marshalled big from.at r.tree) ≡ here + length (length T ∷ (T ++ 0 ∷ inside)) = omega (arith, ap length inside_is, length-append T (0 ∷ inside), place) in
-      let front : length text ∷ (text ++ 0 ∷ []) ≡ length T ∷ (T ++ 0 ∷ []) = ap (λ (x : List ℕ). length x ∷ (x ++ 0 ∷ [])) type_is in
-      let bytes_are : bytes ≡ (length T ∷ (T ++ 0 ∷ inside)) ++ r.rest =
+          let size : from.at + length (marshalled big from.at r.tree) ≡ here + length (length T ∷ (T ++ 0 ∷ inside)) = omega (arith, ap length inside_is, length-append T (0 ∷ inside), place) in
+          let front : length text ∷ (text ++ 0 ∷ []) ≡ length T ∷ (T ++ 0 ∷ []) = ap (λ (x : List ℕ). length x ∷ (x ++ 0 ∷ [])) type_is in
+          let bytes_are : bytes ≡ (length T ∷ (T ++ 0 ∷ inside)) ++ r.rest =
           t.0.split ∙ ap (λ (x : List ℕ). x ++ from.rest) front ∙ ap (λ (x : List ℕ). (length T ∷ (T ++ 0 ∷ [])) ++ x) (r.bytes_are ∙ ap (λ (x : List ℕ). x ++ r.rest) inside_is)
           ∙ ap (λ (x : List ℕ). length T ∷ x) (append_assoc T (0 ∷ []) (inside ++ r.rest) ∙ sym (append_assoc T (0 ∷ inside) r.rest)) in
-      record {
-        tree = Variant r.tree;
-        types = sig;
-        content = length T ∷ (T ++ 0 ∷ inside);
-        rest = r.rest;
-        left = r.left;
-        so_far = r.so_far;
-        fits = (subst (λ (x : List ℕ). is_signature x ≡ true) type_is t.1, subst (λ (x : List ℕ). after_type x ≡ Some []) type_is alone, r.fits);
-        sig_is = refl;
-        form = λ start same. (let no_gap : gap 1 start ≡ 0 = omega arith in
-          let here_is : start ≡ here = omega (arith, same, no_gap) in
-          rw no_gap (ap (λ (x : ℕ). length T ∷ (T ++ 0 ∷ marshalled big (x + length T + 2) r.tree)) here_is));
-        bytes_are = bytes_are;
-        fewer = omega (arith, r.fewer, g.fewer);
-        goes = subst (λ (x : ℕ). (resume fs sig x >>= λ o. walk r.left r.so_far limit big (state o.0 o.1 x r.rest)) ≡ Ok w) size goes;
-      }
+          record {
+            tree = Variant r.tree;
+            types = sig;
+            content = length T ∷ (T ++ 0 ∷ inside);
+            rest = r.rest;
+            left = r.left;
+            so_far = r.so_far;
+            fits = (subst (λ (x : List ℕ). is_signature x ≡ true) type_is t.1, subst (λ (x : List ℕ). after_type x ≡ Some []) type_is alone, r.fits);
+            sig_is = refl;
+            form = λ start same. (let no_gap : gap 1 start ≡ 0 = omega arith in
+                let here_is : start ≡ here = omega (arith, same, no_gap) in
+                rw no_gap (ap (λ (x : ℕ). length T ∷ (T ++ 0 ∷ marshalled big (x + length T + 2) r.tree)) here_is));
+            bytes_are = bytes_are;
+            fewer = omega (arith, r.fewer, g.fewer);
+            goes = subst (λ (x : ℕ). (resume fs sig x >>= λ o. walk r.left r.so_far limit big (state o.0 o.1 x r.rest)) ≡ Ok w) size goes;
+          }
 
 -- ---- every value
 

@@ -202,15 +202,15 @@ members_found m limit big ih zero d n i fs sig at bytes w lt le deep fits e =
 members_found m limit big ih (suc k) d n i fs sig at bytes w lt le deep fits e =
     let g = going n i limit big _ w (open_done open_part.Members fs sig at bytes) e in
     go sig refl g (λ n' i' sig' at' bytes' lt' le' fits' e'. members_found m limit big ih k d n' i' fs sig' at' bytes' w lt' le' deep fits' e') where
-  go : (s : List ℕ) → sig ≡ s → Going n i limit big (state (open_part.Members ∷ fs) sig at bytes) w
-      → ((n' i' : ℕ) (sig' : List ℕ) (at' : ℕ) (bytes' : List ℕ) → n' ≤ k → n' ≤ suc m → IsBytes bytes' → walk n' i' limit big (state (open_part.Members ∷ fs) sig' at' bytes') ≡ Ok w → Members d n' limit big fs sig' at' bytes' w)
-      → Members d n limit big fs sig at bytes w
-  go [] same g again = let h : (in_members limit big fs [] at bytes >>= λ x. walk g.left (i + 1) limit big x.1) ≡ Ok w = subst (λ (s : List ℕ). (in_members limit big fs s at bytes >>= λ x. walk g.left (i + 1) limit big x.1) ≡ Ok w) same g.goes in absurd cc
-  go (c ∷ s) same g again =
-      subst (λ (z : List ℕ). Members d n limit big fs z at bytes w) (sym same) (pick (eqb c 41) refl (subst (λ (z : List ℕ). (in_members limit big fs z at bytes >>= λ x. walk g.left (i + 1) limit big x.1) ≡ Ok w) same g.goes)) where
-    pick : (b : Bool) → eqb c 41 ≡ b → (cond b (resumed (part.Leave 40) fs s at bytes) (enter limit big (open_part.Members ∷ fs) (c ∷ s) at bytes) >>= λ x. walk g.left (i + 1) limit big x.1) ≡ Ok w → Members d n limit big fs (c ∷ s) at bytes w
-    pick true is h = members_closed d n g.left (i + 1) limit big fs c s at bytes w g.fewer is h
-    pick false is h =
-        let r = ih d g.left (i + 1) (open_part.Members ∷ fs) (c ∷ s) at bytes w (omega (arith, g.fewer)) (omega arith) fits h in
-        let rest_fits = IsBytes-rest (marshalled big at r.tree) r.rest (subst IsBytes r.bytes_are fits) in
-        members_longer d n g.left limit big fs (c ∷ s) at bytes w (omega (arith, g.fewer)) r (again r.left r.so_far r.types _ r.rest (omega (arith, g.fewer, r.fewer)) (omega (arith, g.fewer, r.fewer)) rest_fits r.goes)
+      go : (s : List ℕ) → sig ≡ s → Going n i limit big (state (open_part.Members ∷ fs) sig at bytes) w
+          → ((n' i' : ℕ) (sig' : List ℕ) (at' : ℕ) (bytes' : List ℕ) → n' ≤ k → n' ≤ suc m → IsBytes bytes' → walk n' i' limit big (state (open_part.Members ∷ fs) sig' at' bytes') ≡ Ok w → Members d n' limit big fs sig' at' bytes' w)
+          → Members d n limit big fs sig at bytes w
+      go [] same g again = let h : (in_members limit big fs [] at bytes >>= λ x. walk g.left (i + 1) limit big x.1) ≡ Ok w = subst (λ (s : List ℕ). (in_members limit big fs s at bytes >>= λ x. walk g.left (i + 1) limit big x.1) ≡ Ok w) same g.goes in absurd cc
+      go (c ∷ s) same g again =
+          subst (λ (z : List ℕ). Members d n limit big fs z at bytes w) (sym same) (pick (eqb c 41) refl (subst (λ (z : List ℕ). (in_members limit big fs z at bytes >>= λ x. walk g.left (i + 1) limit big x.1) ≡ Ok w) same g.goes)) where
+            pick : (b : Bool) → eqb c 41 ≡ b → (cond b (resumed (part.Leave 40) fs s at bytes) (enter limit big (open_part.Members ∷ fs) (c ∷ s) at bytes) >>= λ x. walk g.left (i + 1) limit big x.1) ≡ Ok w → Members d n limit big fs (c ∷ s) at bytes w
+            pick true is h = members_closed d n g.left (i + 1) limit big fs c s at bytes w g.fewer is h
+            pick false is h =
+                let r = ih d g.left (i + 1) (open_part.Members ∷ fs) (c ∷ s) at bytes w (omega (arith, g.fewer)) (omega arith) fits h in
+                let rest_fits = IsBytes-rest (marshalled big at r.tree) r.rest (subst IsBytes r.bytes_are fits) in
+                members_longer d n g.left limit big fs (c ∷ s) at bytes w (omega (arith, g.fewer)) r (again r.left r.so_far r.types _ r.rest (omega (arith, g.fewer, r.fewer)) (omega (arith, g.fewer, r.fewer)) rest_fits r.goes)

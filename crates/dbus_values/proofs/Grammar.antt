@@ -76,6 +76,7 @@ item_local step local (c ∷ sig) rest e = go (eqb c 123) refl e where
     long = omega arith;
     again = λ types. rw is (f.again types);
   }
+
   plain : (f : Front step (c ∷ sig) rest) → eqb c 123 ≡ false → Front (item_end step) (c ∷ sig) rest
   plain f is = from f.front f.split f.long f.again where
     from : (front : List ℕ) → c ∷ sig ≡ front ++ rest → 1 ≤ length front → ((types : List ℕ) → step (front ++ types) ≡ Some types) → Front (item_end step) (c ∷ sig) rest
@@ -83,6 +84,7 @@ item_local step local (c ∷ sig) rest e = go (eqb c 123) refl e where
     from (x ∷ xs) split long again =
         let first : c ≡ x = cc in
         record { front = x ∷ xs; split = split; long = long; again = λ types. (let no : eqb x 123 ≡ false = rw first at is in rw no (again types)) }
+
   go : (b : Bool) → eqb c 123 ≡ b → cond b (entry_end step sig) (step (c ∷ sig)) ≡ Some rest → Front (item_end step) (c ∷ sig) rest
   go true is h = wrapped (entry_local step local sig rest h) is
   go false is h = plain (local (c ∷ sig) rest h) is
@@ -105,6 +107,7 @@ members_local step local zero sig rest e = absurd cc
 members_local step local (suc n) sig rest e = go (λ s h. members_local step local n s rest h) b.0 (local sig b.0 b.1) b.2 where
   b : (r : List ℕ) × (step sig ≡ Some r) × (members_on (members_end step n) r ≡ Some rest)
   b = and_then_some (λ r. members_on (members_end step n) r) (step sig) rest e
+
   closed : (c : ℕ) (r : List ℕ) → Front step sig (c ∷ r) → eqb c 41 ≡ true → r ≡ rest → Members step sig rest
   closed c r f is same =
       let letter : c ≡ 41 = eqb-true c 41 is in
@@ -113,9 +116,10 @@ members_local step local (suc n) sig rest e = go (λ s h. members_local step loc
         split = f.split ∙ ap (λ (x : ℕ). f.front ++ x ∷ r) letter ∙ ap (λ (x : List ℕ). f.front ++ 41 ∷ x) same ∙ sym (append_assoc f.front (41 ∷ []) rest);
         long = omega (arith, length-append f.front (41 ∷ []));
         again = λ types m le. (let r1 : (f.front ++ 41 ∷ []) ++ types ≡ f.front ++ 41 ∷ types = append_assoc f.front (41 ∷ []) types in
-          let one = members_step step m (f.front ++ 41 ∷ types) (41 ∷ types) (omega (arith, le, length-append f.front (41 ∷ []))) (f.again (41 ∷ types)) in
-          rw (r1, one) refl);
+            let one = members_step step m (f.front ++ 41 ∷ types) (41 ∷ types) (omega (arith, le, length-append f.front (41 ∷ []))) (f.again (41 ∷ types)) in
+            rw (r1, one) refl);
       }
+
   onward : (c : ℕ) (r : List ℕ) → Front step sig (c ∷ r) → eqb c 41 ≡ false → Members step (c ∷ r) rest → Members step sig rest
   onward c r f is more = from more.front more.split more.long more.again where
     from : (front : List ℕ) → c ∷ r ≡ front ++ rest → 1 ≤ length front → ((types : List ℕ) (m : ℕ) → length front ≤ m → members_end step m (front ++ types) ≡ Some types) → Members step sig rest
@@ -128,9 +132,10 @@ members_local step local (suc n) sig rest e = go (λ s h. members_local step loc
           split = f.split ∙ ap (λ (y : List ℕ). f.front ++ y) split ∙ sym (append_assoc f.front (x ∷ xs) rest);
           long = omega (arith, f.long, length-append f.front (x ∷ xs));
           again = λ types m le. (let r1 : (f.front ++ x ∷ xs) ++ types ≡ f.front ++ x ∷ (xs ++ types) = append_assoc f.front (x ∷ xs) types in
-            let one = members_step step m (f.front ++ x ∷ (xs ++ types)) (x ∷ (xs ++ types)) (omega (arith, le, f.long, length-append f.front (x ∷ xs))) (f.again (x ∷ (xs ++ types))) in
-            rw (r1, one, no) (again types (m - 1) (omega (arith, le, f.long, length-append f.front (x ∷ xs)))));
+              let one = members_step step m (f.front ++ x ∷ (xs ++ types)) (x ∷ (xs ++ types)) (omega (arith, le, f.long, length-append f.front (x ∷ xs))) (f.again (x ∷ (xs ++ types))) in
+              rw (r1, one, no) (again types (m - 1) (omega (arith, le, f.long, length-append f.front (x ∷ xs)))));
         }
+
   go : ((s : List ℕ) → members_end step n s ≡ Some rest → Members step s rest) → (r : List ℕ) → Front step sig r → members_on (members_end step n) r ≡ Some rest → Members step sig rest
   go ih [] f h = absurd cc
   go ih (c ∷ r) f h = pick (eqb c 41) refl h where
@@ -159,6 +164,7 @@ type_local (suc level) arrays structs (c ∷ sig) rest e = go (class_of c) refl 
   letter k is plain h =
       let same : sig ≡ rest = some_is sig rest (sym (plain sig) ∙ h) in
       record { front = c ∷ []; split = ap (λ (x : List ℕ). c ∷ x) same; long = omega arith; again = λ types. letter_again k level arrays structs c types is (plain types) }
+
   go : (k : Class) → class_of c ≡ k → ((a s : ℕ) → Local (type_end level a s)) → type_by k (type_end level) arrays structs sig ≡ Some rest → Front (type_end (suc level) arrays structs) (c ∷ sig) rest
   go class.Array is ih h =
       let g = cond_none (eqb arrays 0) (item_end (type_end level (arrays - 1) structs) sig) rest h in

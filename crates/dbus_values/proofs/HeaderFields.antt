@@ -46,9 +46,9 @@ number_field_again big start c n at h rest lt some =
     let size : at + length (padding g ++ bytes_of big w32 n) ≡ at + g + 4 = omega (arith, length-append (padding g) (bytes_of big w32 n), length-padding g, wide32.len big n) in
     let test : ((c == 5) && (n == 0)) ≡ false = go (eqb c 5) refl in
     rw (r, zeros_again g at (bytes_of big w32 n ++ rest), number_again big w32 (2 ^ 32) wide32 n (at + g) rest lt, test, size) refl where
-  go : (b : Bool) → eqb c 5 ≡ b → (b && eqb n 0) ≡ false
-  go true is = let pos = some (eqb-true c 5 is) in not_zero n (omega arith)
-  go false is = refl
+      go : (b : Bool) → eqb c 5 ≡ b → (b && eqb n 0) ≡ false
+      go true is = let pos = some (eqb-true c 5 is) in not_zero n (omega arith)
+      go false is = refl
 
 text_short : (k : Class) (big : Bool) (t : List ℕ) → length t ≤ length (text_bytes big k t)
 text_short class.Signature big t = omega (arith, length-append t (0 ∷ []))
@@ -101,9 +101,9 @@ known_again big start c at (Text l t) h rest is lt =
     let read' : text_field big c h (at + 1 + 1 + 1) (value ++ rest) ≡ Ok (put_text h c t, spot_at (at + length (1 ∷ (type_code c ∷ (0 ∷ value)))) rest) = read ∙ ap (λ (q : ℕ). Ok (put_text h c t, spot_at q rest)) size in
     let whole = known_text big start c at h (value ++ rest) (put_text h c t, spot_at (at + length (1 ∷ (type_code c ∷ (0 ∷ value)))) rest) code read' in
     subst (λ (q : ℕ). known_field big start c h at (marshalled big at (Variant (Text q t)) ++ rest) ≡ Ok (put_text h c t, spot_at (at + length (marshalled big at (Variant (Text q t)))) rest)) (sym is.0) whole where
-  other : (b : Bool) → eqb (type_code c) 117 ≡ b → IsString (class_of (type_code c)) t → b ≡ false
-  other true e string = absurd (subst (λ (q : ℕ). IsString (class_of q) t) (eqb-true (type_code c) 117 e) string)
-  other false e string = refl
+      other : (b : Bool) → eqb (type_code c) 117 ≡ b → IsString (class_of (type_code c)) t → b ≡ false
+      other true e string = absurd (subst (λ (q : ℕ). IsString (class_of q) t) (eqb-true (type_code c) 117 e) string)
+      other false e string = refl
 known_again big start c at (Array item ts) h rest is lt = absurd is
 known_again big start c at (Struct ts) h rest is lt = absurd is
 known_again big start c at (Entry k v) h rest is lt = absurd is
@@ -125,16 +125,22 @@ unfolding field_at byte_at
 field_again big h at f rest is le = go is.value where
   g : ℕ
   g = gap 8 at
+
   here : ℕ
   here = at + gap 8 at + 1
+
   v : List ℕ
   v = marshalled big (at + gap 8 at + 1) (Variant f.value)
+
   split : (padding (gap 8 at) ++ (f.code ∷ marshalled big (at + gap 8 at + 1) (Variant f.value))) ++ rest ≡ padding (gap 8 at) ++ (f.code ∷ (marshalled big (at + gap 8 at + 1) (Variant f.value) ++ rest))
   split = append_assoc (padding (gap 8 at)) (f.code ∷ marshalled big (at + gap 8 at + 1) (Variant f.value)) rest
+
   size : at + length (padding (gap 8 at) ++ (f.code ∷ marshalled big (at + gap 8 at + 1) (Variant f.value))) ≡ at + gap 8 at + 1 + length (marshalled big (at + gap 8 at + 1) (Variant f.value))
   size = omega (arith, length-append (padding (gap 8 at)) (f.code ∷ marshalled big (at + gap 8 at + 1) (Variant f.value)), length-padding (gap 8 at))
+
   first : eqb f.code 0 ≡ false
   first = let low = is.low in not_zero f.code (omega arith)
+
   go : ((f.code < 10) × IsKnown f.code f.value) ⊎ ((10 ≤ f.code) × IsUnknown f.value) → field_at big h at (field_bytes big at f ++ rest) ≡ Ok (put h f, spot_at (at + length (field_bytes big at f)) rest)
   go (inl known) =
       let low : ltb f.code 10 ≡ true = lt-ltb f.code 10 known.0 in

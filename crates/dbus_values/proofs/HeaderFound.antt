@@ -53,9 +53,9 @@ number_found big start c at h bytes x fits e =
     let first : Takes at bytes (padding (gap 4 at)) b0.0 = record { split = z.0; place = omega (arith, z.1, length-padding (gap 4 at)) } in
     let both = takes_then at bytes (padding (gap 4 at)) b0.0 (bytes_of big w32 n) b1.0.1 first t.0 in
     (n, sym (ap (λ (y : Header × Spot). y.0) same), t.1, (λ is. positive is (eqb n 0) refl g.0), subst (λ (q : Spot). Takes at bytes (marshalled big at (Number 117 n)) q) (ap (λ (y : Header × Spot). y.1) same) both) where
-  positive : {n : ℕ} → c ≡ 5 → (b : Bool) → eqb n 0 ≡ b → ((c == 5) && eqb n 0) ≡ false → 0 < n
-  positive {n} is true e h = let k : (c == 5) ≡ true = eq-eqb c 5 is in let h2 : true ≡ false = rw (k, e) at h in absurd cc
-  positive {n} is false e h = let ne = eqb-false n 0 e in omega arith
+      positive : {n : ℕ} → c ≡ 5 → (b : Bool) → eqb n 0 ≡ b → ((c == 5) && eqb n 0) ≡ false → 0 < n
+      positive {n} is true e h = let k : (c == 5) ≡ true = eq-eqb c 5 is in let h2 : true ≡ false = rw (k, e) at h in absurd cc
+      positive {n} is false e h = let ne = eqb-false n 0 e in omega arith
 
 text_found : (big : Bool) (c at : ℕ) (h : Header) (bytes : List ℕ) (x : Header × Spot) → IsBytes bytes → text_field big c h at bytes ≡ Ok x
     → (t : List ℕ) × (x.0 ≡ put_text h c t) × IsString (class_of (type_code c)) t × Takes at bytes (marshalled big at (Text (type_code c) t)) x.1
@@ -96,18 +96,18 @@ known_found big start c at h bytes x fits e =
     let t = sig_takes at bytes s b0.1 in
     let fits1 = IsBytes-rest (length s.0 ∷ (s.0 ++ 0 ∷ [])) s.1.rest (subst IsBytes t.0.split fits) in
     pick s t.0 text_is fits1 (eqb (type_code c) 117) refl g.1 where
-  pick : (s : List ℕ × Spot) → Takes at bytes (length s.0 ∷ (s.0 ++ 0 ∷ [])) s.1 → s.0 ≡ type_code c ∷ [] → IsBytes s.1.rest → (b : Bool) → eqb (type_code c) 117 ≡ b
-      → cond b (number_field big start c h s.1.at s.1.rest) (text_field big c h s.1.at s.1.rest) ≡ Ok x → (v : Tree) × (x.0 ≡ put_value h c v) × IsKnown c v × Takes at bytes (marshalled big at (Variant v)) x.1
-  pick s t text_is fits1 true is read =
-      let code = eqb-true (type_code c) 117 is in
-      let n = number_found big start c s.1.at h s.1.rest x fits1 read in
-      let same : s.0 ≡ 117 ∷ [] = text_is ∙ ap (λ (q : ℕ). q ∷ []) code in
-      let place : s.1.at ≡ at + 1 + 2 = place_is at s.0 (117 ∷ []) s.1 bytes t same in
-      (Number 117 n.0, n.1, (refl, code, n.2, n.3), variant_taken big at bytes s.1 x.1 (Number 117 n.0) s.0 t same (subst (λ (q : ℕ). Takes s.1.at s.1.rest (marshalled big q (Number 117 n.0)) x.1) place n.4))
-  pick s t text_is fits1 false is read =
-      let n = text_found big c s.1.at h s.1.rest x fits1 read in
-      let place : s.1.at ≡ at + 1 + 2 = place_is at s.0 (type_code c ∷ []) s.1 bytes t text_is in
-      (Text (type_code c) n.0, n.1, (refl, n.2), variant_taken big at bytes s.1 x.1 (Text (type_code c) n.0) s.0 t text_is (subst (λ (q : ℕ). Takes s.1.at s.1.rest (marshalled big q (Text (type_code c) n.0)) x.1) place n.3))
+      pick : (s : List ℕ × Spot) → Takes at bytes (length s.0 ∷ (s.0 ++ 0 ∷ [])) s.1 → s.0 ≡ type_code c ∷ [] → IsBytes s.1.rest → (b : Bool) → eqb (type_code c) 117 ≡ b
+          → cond b (number_field big start c h s.1.at s.1.rest) (text_field big c h s.1.at s.1.rest) ≡ Ok x → (v : Tree) × (x.0 ≡ put_value h c v) × IsKnown c v × Takes at bytes (marshalled big at (Variant v)) x.1
+      pick s t text_is fits1 true is read =
+          let code = eqb-true (type_code c) 117 is in
+          let n = number_found big start c s.1.at h s.1.rest x fits1 read in
+          let same : s.0 ≡ 117 ∷ [] = text_is ∙ ap (λ (q : ℕ). q ∷ []) code in
+          let place : s.1.at ≡ at + 1 + 2 = place_is at s.0 (117 ∷ []) s.1 bytes t same in
+          (Number 117 n.0, n.1, (refl, code, n.2, n.3), variant_taken big at bytes s.1 x.1 (Number 117 n.0) s.0 t same (subst (λ (q : ℕ). Takes s.1.at s.1.rest (marshalled big q (Number 117 n.0)) x.1) place n.4))
+      pick s t text_is fits1 false is read =
+          let n = text_found big c s.1.at h s.1.rest x fits1 read in
+          let place : s.1.at ≡ at + 1 + 2 = place_is at s.0 (type_code c ∷ []) s.1 bytes t text_is in
+          (Text (type_code c) n.0, n.1, (refl, n.2), variant_taken big at bytes s.1 x.1 (Text (type_code c) n.0) s.0 t text_is (subst (λ (q : ℕ). Takes s.1.at s.1.rest (marshalled big q (Text (type_code c) n.0)) x.1) place n.3))
 
 type_pos : (t : Tree) → 1 ≤ length (type_of t)
 type_pos (Number c n) = omega arith
@@ -141,15 +141,16 @@ unknown_found big at bytes x fits e =
     let r = row_found most_parts 62 most_parts 0 62 big (118 ∷ []) at bytes b.0 (omega arith) refl fits b.1 in
     let same = ok_is {E = Fault} (spot_at b.0.at b.0.rest) x b.2 in
     subst (λ (q : Spot). (v : Tree) × IsUnknown v × Takes at bytes (marshalled big at (Variant v)) q) same (go r.trees r.fit r.sig_is r.bytes_are r.place) where
-  w : Walked → Spot
-  w v = spot_at v.at v.rest
-  go : {to : Spot} (ts : Trees) → Each (FitsAs false 62) ts → 118 ∷ [] ≡ types_of ts → bytes ≡ all_marshalled big at ts ++ to.rest → to.at ≡ at + length (all_marshalled big at ts) → (v : Tree) × IsUnknown v × Takes at bytes (marshalled big at (Variant v)) to
-  go none each e split place = absurd cc
-  go {to} (more t ts) each e split place =
-      let o = one_variant t ts e each.0 in
-      let m = marshalled big at (Variant o.0) in
-      let all : all_marshalled big at (more t ts) ≡ m = ap (λ (u : Trees). all_marshalled big at (more t u)) o.2 ∙ append-nil (marshalled big at t) ∙ ap (λ (u : Tree). marshalled big at u) o.1 in
-      (o.0, subst (λ (u : Tree). FitsAs false 62 u) o.1 each.0, record { split = split ∙ ap (λ (y : List ℕ). y ++ to.rest) all; place = place ∙ ap (λ (y : List ℕ). at + length y) all })
+      w : Walked → Spot
+      w v = spot_at v.at v.rest
+
+      go : {to : Spot} (ts : Trees) → Each (FitsAs false 62) ts → 118 ∷ [] ≡ types_of ts → bytes ≡ all_marshalled big at ts ++ to.rest → to.at ≡ at + length (all_marshalled big at ts) → (v : Tree) × IsUnknown v × Takes at bytes (marshalled big at (Variant v)) to
+      go none each e split place = absurd cc
+      go {to} (more t ts) each e split place =
+          let o = one_variant t ts e each.0 in
+          let m = marshalled big at (Variant o.0) in
+          let all : all_marshalled big at (more t ts) ≡ m = ap (λ (u : Trees). all_marshalled big at (more t u)) o.2 ∙ append-nil (marshalled big at t) ∙ ap (λ (u : Tree). marshalled big at u) o.1 in
+          (o.0, subst (λ (u : Tree). FitsAs false 62 u) o.1 each.0, record { split = split ∙ ap (λ (y : List ℕ). y ++ to.rest) all; place = place ∙ ap (λ (y : List ℕ). at + length y) all })
 
 -- a field that was read
 record FieldRead (big : Bool) (h : Header) (at : ℕ) (bytes : List ℕ) (x : Header × Spot) : Type 0 where
@@ -181,31 +182,32 @@ field_found big h at bytes x fits e =
     let fits3 = IsBytes-rest (c.0 ∷ []) c.1.rest fits2 in
     let g = guard_ok ((c.0 == 0) || has h c.0) (record { kind = fault.Fields; at = p.at }) (read p c) x b1.2 in
     pick p c z.0 z.1 t (fits2 0) fits3 (either (eqb c.0 0) (has h c.0) g.0) (ltb c.0 10) refl g.1 where
-  either : (a b : Bool) → (a || b) ≡ false → (a ≡ false) × (b ≡ false)
-  either true b e = absurd cc
-  either false b e = (refl, e)
-  pick : (p : Spot) (c : ℕ × Spot) → bytes ≡ padding (gap 8 at) ++ p.rest → p.at ≡ at + gap 8 at → Takes p.at p.rest (c.0 ∷ []) c.1 → c.0 < 256 → IsBytes c.1.rest → (eqb c.0 0 ≡ false) × (has h c.0 ≡ false) → (b : Bool) → ltb c.0 10 ≡ b
-      → cond b (known_field big p.at c.0 h c.1.at c.1.rest) (passed_field big c.1.at c.1.rest >>= λ y. Ok (h, y)) ≡ Ok x → FieldRead big h at bytes x
-  pick p c split place t high fits3 new true is read =
-      let v = known_found big p.at c.0 c.1.at h c.1.rest x fits3 read in
-      let low : 0 < c.0 = (let ne = eqb-false c.0 0 new.0 in omega arith) in
-      record {
-        field = record { code = c.0; value = v.0 };
-        is = record { low = low; high = high; once = new.1; value = inl (ltb-true c.0 10 is, v.2) };
-        header_is = v.1 ∙ sym (rw is refl);
-        taken = field_taken big at bytes p c.1 x.1 c.0 v.0 split place t v.3;
-      }
-  pick p c split place t high fits3 new false is read =
-      let b = bind_ok (passed_field big c.1.at c.1.rest) (λ y. Ok (h, y)) x read in
-      let v = unknown_found big c.1.at c.1.rest b.0 fits3 b.1 in
-      let same = ok_is {E = Fault} (h, b.0) x b.2 in
-      let low : 0 < c.0 = (let ne = eqb-false c.0 0 new.0 in omega arith) in
-      record {
-        field = record { code = c.0; value = v.0 };
-        is = record { low = low; high = high; once = new.1; value = inr (ltb-false c.0 10 is, v.1) };
-        header_is = sym (ap (λ (y : Header × Spot). y.0) same) ∙ sym (rw is refl);
-        taken = field_taken big at bytes p c.1 x.1 c.0 v.0 split place t (subst (λ (q : Spot). Takes c.1.at c.1.rest (marshalled big c.1.at (Variant v.0)) q) (ap (λ (y : Header × Spot). y.1) same) v.2);
-      }
+      either : (a b : Bool) → (a || b) ≡ false → (a ≡ false) × (b ≡ false)
+      either true b e = absurd cc
+      either false b e = (refl, e)
+
+      pick : (p : Spot) (c : ℕ × Spot) → bytes ≡ padding (gap 8 at) ++ p.rest → p.at ≡ at + gap 8 at → Takes p.at p.rest (c.0 ∷ []) c.1 → c.0 < 256 → IsBytes c.1.rest → (eqb c.0 0 ≡ false) × (has h c.0 ≡ false) → (b : Bool) → ltb c.0 10 ≡ b
+          → cond b (known_field big p.at c.0 h c.1.at c.1.rest) (passed_field big c.1.at c.1.rest >>= λ y. Ok (h, y)) ≡ Ok x → FieldRead big h at bytes x
+      pick p c split place t high fits3 new true is read =
+          let v = known_found big p.at c.0 c.1.at h c.1.rest x fits3 read in
+          let low : 0 < c.0 = (let ne = eqb-false c.0 0 new.0 in omega arith) in
+          record {
+            field = record { code = c.0; value = v.0 };
+            is = record { low = low; high = high; once = new.1; value = inl (ltb-true c.0 10 is, v.2) };
+            header_is = v.1 ∙ sym (rw is refl);
+            taken = field_taken big at bytes p c.1 x.1 c.0 v.0 split place t v.3;
+          }
+      pick p c split place t high fits3 new false is read =
+          let b = bind_ok (passed_field big c.1.at c.1.rest) (λ y. Ok (h, y)) x read in
+          let v = unknown_found big c.1.at c.1.rest b.0 fits3 b.1 in
+          let same = ok_is {E = Fault} (h, b.0) x b.2 in
+          let low : 0 < c.0 = (let ne = eqb-false c.0 0 new.0 in omega arith) in
+          record {
+            field = record { code = c.0; value = v.0 };
+            is = record { low = low; high = high; once = new.1; value = inr (ltb-false c.0 10 is, v.1) };
+            header_is = sym (ap (λ (y : Header × Spot). y.0) same) ∙ sym (rw is refl);
+            taken = field_taken big at bytes p c.1 x.1 c.0 v.0 split place t (subst (λ (q : Spot). Takes c.1.at c.1.rest (marshalled big c.1.at (Variant v.0)) q) (ap (λ (y : Header × Spot). y.1) same) v.2);
+          }
 
 -- the fields that were read
 pub record FieldsRead (big : Bool) (h : Header) (at : ℕ) (bytes : List ℕ) (to : Header) : Type 0 where

@@ -27,10 +27,10 @@ array_letter c e =
     (skip (eqb c 98) class.Boolean _ class.Array (λ h. cc)
     (skip _ class.Half _ class.Array (λ h. cc)
     (skip (eqb c 121) class.Byte _ class.Array (λ h. cc) e)))))))) where
-  none : cond (eqb c 40) class.Struct (cond (eqb c 123) class.Entry (cond (eqb c 118) class.Variant class.Other)) ≡ class.Array → ⊥
-  none h = other (skip (eqb c 118) class.Variant class.Other class.Array (λ h. cc) (skip (eqb c 123) class.Entry _ class.Array (λ h. cc) (skip (eqb c 40) class.Struct _ class.Array (λ h. cc) h))) where
-    other : class.Other ≡ class.Array → ⊥
-    other h = cc
+      none : cond (eqb c 40) class.Struct (cond (eqb c 123) class.Entry (cond (eqb c 118) class.Variant class.Other)) ≡ class.Array → ⊥
+      none h = other (skip (eqb c 118) class.Variant class.Other class.Array (λ h. cc) (skip (eqb c 123) class.Entry _ class.Array (λ h. cc) (skip (eqb c 40) class.Struct _ class.Array (λ h. cc) h))) where
+        other : class.Other ≡ class.Array → ⊥
+        other h = cc
 
 pub struct_letter : (c : ℕ) → class_of c ≡ class.Struct → c ≡ 40
 struct_letter c e =
@@ -44,10 +44,10 @@ struct_letter c e =
     (skip (eqb c 98) class.Boolean _ class.Struct (λ h. cc)
     (skip _ class.Half _ class.Struct (λ h. cc)
     (skip (eqb c 121) class.Byte _ class.Struct (λ h. cc) e))))))))) where
-  none : cond (eqb c 123) class.Entry (cond (eqb c 118) class.Variant class.Other) ≡ class.Struct → ⊥
-  none h = other (skip (eqb c 118) class.Variant class.Other class.Struct (λ h. cc) (skip (eqb c 123) class.Entry _ class.Struct (λ h. cc) h)) where
-    other : class.Other ≡ class.Struct → ⊥
-    other h = cc
+      none : cond (eqb c 123) class.Entry (cond (eqb c 118) class.Variant class.Other) ≡ class.Struct → ⊥
+      none h = other (skip (eqb c 118) class.Variant class.Other class.Struct (λ h. cc) (skip (eqb c 123) class.Entry _ class.Struct (λ h. cc) h)) where
+        other : class.Other ≡ class.Struct → ⊥
+        other h = cc
 
 pub variant_letter : (c : ℕ) → class_of c ≡ class.Variant → c ≡ 118
 variant_letter c e =

@@ -178,8 +178,10 @@ lasts_walk (suc n) so_far limit big s w is = go (λ t. lasts_walk n (so_far + 1)
       let rest = ih x.1 h in
       let k : w.parts - so_far ≡ suc (w.parts - (so_far + 1)) = omega (arith, rest.0) in
       (omega (arith, rest.0), rw (k, stepped) rest.1)
+
   ended : ◌≡◌ {A = Result Walked Fault} (Ok (walked so_far (spot_at s.at s.rest))) (Ok w) → so_far ≡ w.parts
   ended h = let same : walked so_far (spot_at s.at s.rest) ≡ w = cc in ap (λ (v : Walked). v.parts) same
+
   go : ((t : State) → walk n (so_far + 1) limit big t ≡ Ok w → (so_far + 1 ≤ w.parts) × Lasts (w.parts - (so_far + 1)) limit big t)
       → (b : Bool) → (if b then Ok (record { parts = so_far; at = s.at; rest = s.rest }) else (step limit big s >>= λ x. walk n (so_far + 1) limit big x.1)) ≡ Ok w → (so_far ≤ w.parts) × Lasts (w.parts - so_far) limit big s
   go ih true h =

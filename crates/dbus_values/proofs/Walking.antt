@@ -396,6 +396,7 @@ both_enter zero limit big = (value, item) where
   value (Struct ts) fits fs types rest at gs left deep lt go = absurd fits
   value (Entry k v) fits fs types rest at gs left deep lt go = absurd fits
   value (Variant t) fits fs types rest at gs left deep lt go = absurd fits
+
   item : EntersItem zero limit big
   item (Number c n) fits fs rest at deep lt still = value_item limit big (Number c n) fs at rest (item_letter limit big fs c at _ (other_letter c 123 (λ k. IsNumber k n) fits (λ h. h))) (number_enters zero limit big c n fits fs [] rest at fs [] (still _))
   item (Text c t) fits fs rest at deep lt still = value_item limit big (Text c t) fs at rest (item_letter limit big fs c at _ (other_letter c 123 (λ k. IsString k t) fits (λ h. h))) (text_enters zero limit big c t fits fs [] rest at fs [] lt (still _))
@@ -411,6 +412,7 @@ both_enter (suc d) limit big = (value (both_enter d limit big), item (both_enter
   value ih (Struct ts) fits fs types rest at gs left deep lt go = struct_enters d limit big ih.0 ts fits.0 fits.1 fs types rest at gs left deep lt go
   value ih (Entry k v) fits fs types rest at gs left deep lt go = absurd fits
   value ih (Variant t) fits fs types rest at gs left deep lt go = variant_enters d limit big ih.0 t fits.0 fits.1 fits.2 fs types rest at gs left deep lt go
+
   item : Enters d limit big × EntersItem d limit big → EntersItem (suc d) limit big
   item ih (Number c n) fits fs rest at deep lt still = value_item limit big (Number c n) fs at rest (item_letter limit big fs c at _ (other_letter c 123 (λ k. IsNumber k n) fits (λ h. h))) (number_enters d limit big c n fits fs [] rest at fs [] (still _))
   item ih (Text c t) fits fs rest at deep lt still = value_item limit big (Text c t) fs at rest (item_letter limit big fs c at _ (other_letter c 123 (λ k. IsString k t) fits (λ h. h))) (text_enters d limit big c t fits fs [] rest at fs [] lt (still _))

@@ -167,7 +167,7 @@ read_again big m more is =
     let b = bytes_of big w32 m.serial in
     let c = bytes_of big w32 F in
     let regroup : bytes ≡ first_bytes big m.kind m.flags L m.serial F (fields ++ (tail ++ more)) =
-        ap (λ (x : List ℕ). order_byte big ∷ m.kind ∷ m.flags ∷ 1 ∷ x) (append_assoc a (b ++ (c ++ (fields ++ tail))) more ∙ ap (λ (x : List ℕ). a ++ x) (append_assoc b (c ++ (fields ++ tail)) more ∙ ap (λ (x : List ℕ). b ++ x) (append_assoc c (fields ++ tail) more ∙ ap (λ (x : List ℕ). c ++ x) (append_assoc fields tail more)))) in
+    ap (λ (x : List ℕ). order_byte big ∷ m.kind ∷ m.flags ∷ 1 ∷ x) (append_assoc a (b ++ (c ++ (fields ++ tail))) more ∙ ap (λ (x : List ℕ). a ++ x) (append_assoc b (c ++ (fields ++ tail)) more ∙ ap (λ (x : List ℕ). b ++ x) (append_assoc c (fields ++ tail) more ∙ ap (λ (x : List ℕ). c ++ x) (append_assoc fields tail more)))) in
     let s : Start = record { big = big; kind = m.kind; flags = m.flags; body = L; serial = m.serial; fields = F } in
     let started : start_of bytes ≡ Ok s = ap start_of regroup ∙ start_again big m.kind m.flags L m.serial F (fields ++ (tail ++ more)) is.kind.0 is.serial.0 is.serial.1 small in
     let rest : drop 16 bytes ≡ fields ++ (tail ++ more) = ap (λ (x : List ℕ). drop 16 x) regroup ∙ first_rest big m.kind m.flags L m.serial F (fields ++ (tail ++ more)) in
@@ -179,9 +179,10 @@ read_again big m more is =
     let enough : ltb (length bytes) (total s) ≡ false = le-ltb _ _ (omega (arith, length-append (message_bytes big m) more, whole)) in
     let parts_are = body_parts big m.body P is.body (omega (arith, small)) in
     let shown_is : shown s h (length (all_pieces m.body)) (spot_at P body) ≡ shown_of m =
-        ap (λ (x : List ℕ). look big m h (length (all_pieces m.body)) P body x) is.signature ∙ ap (λ (x : List Piece). looks m h x) parts_are in
+    ap (λ (x : List ℕ). look big m h (length (all_pieces m.body)) P body x) is.signature ∙ ap (λ (x : List Piece). looks m h x) parts_are in
     rw (started, enough, all, ← whole) (ap (λ (x : Seen). Whole x (length (message_bytes big m))) shown_is) where
-  look : Bool → Message → Header → ℕ → ℕ → List ℕ → List ℕ → Seen
-  look big m h n P body sig = record { kind = m.kind; flags = m.flags; serial = m.serial; path = h.path; interface = h.interface; member = h.member; error_name = h.error_name; reply_serial = h.reply_serial; signature = sig; parts = parts n 64 big (state [] sig P body) }
-  looks : Message → Header → List Piece → Seen
-  looks m h ps = record { kind = m.kind; flags = m.flags; serial = m.serial; path = h.path; interface = h.interface; member = h.member; error_name = h.error_name; reply_serial = h.reply_serial; signature = types_of m.body; parts = ps }
+      look : Bool → Message → Header → ℕ → ℕ → List ℕ → List ℕ → Seen
+      look big m h n P body sig = record { kind = m.kind; flags = m.flags; serial = m.serial; path = h.path; interface = h.interface; member = h.member; error_name = h.error_name; reply_serial = h.reply_serial; signature = sig; parts = parts n 64 big (state [] sig P body) }
+
+      looks : Message → Header → List Piece → Seen
+      looks m h ps = record { kind = m.kind; flags = m.flags; serial = m.serial; path = h.path; interface = h.interface; member = h.member; error_name = h.error_name; reply_serial = h.reply_serial; signature = types_of m.body; parts = ps }

@@ -49,14 +49,16 @@ order_found bytes big e =
     let chosen : Result Bool Stop = cond (eqb (get_or bytes 0 0) 108) (Ok false) (cond (eqb (get_or bytes 0 0) 66) (Ok true) (wrong fault.Endian 0)) in
     let g = guard_ok (ltb (length bytes) 1) stop.Partial chosen big e in
     little (eqb (get_or bytes 0 0) 108) refl g.1 where
-  same : (x : Bool) → ◌≡◌ {A = Result Bool Stop} (Ok x) (Ok big) → get_or bytes 0 0 ≡ order_byte x → get_or bytes 0 0 ≡ order_byte big
-  same x h is = subst (λ (y : Bool). get_or bytes 0 0 ≡ order_byte y) (stop_ok_is x big h) is
-  large : (b : Bool) → eqb (get_or bytes 0 0) 66 ≡ b → cond b (Ok true) (wrong fault.Endian 0) ≡ Ok big → get_or bytes 0 0 ≡ order_byte big
-  large true is h = same true h (eqb-true _ _ is)
-  large false is h = absurd cc
-  little : (b : Bool) → eqb (get_or bytes 0 0) 108 ≡ b → cond b (Ok false) (cond (eqb (get_or bytes 0 0) 66) (Ok true) (wrong fault.Endian 0)) ≡ Ok big → get_or bytes 0 0 ≡ order_byte big
-  little true is h = same false h (eqb-true _ _ is)
-  little false is h = large (eqb (get_or bytes 0 0) 66) refl h
+      same : (x : Bool) → ◌≡◌ {A = Result Bool Stop} (Ok x) (Ok big) → get_or bytes 0 0 ≡ order_byte x → get_or bytes 0 0 ≡ order_byte big
+      same x h is = subst (λ (y : Bool). get_or bytes 0 0 ≡ order_byte y) (stop_ok_is x big h) is
+
+      large : (b : Bool) → eqb (get_or bytes 0 0) 66 ≡ b → cond b (Ok true) (wrong fault.Endian 0) ≡ Ok big → get_or bytes 0 0 ≡ order_byte big
+      large true is h = same true h (eqb-true _ _ is)
+      large false is h = absurd cc
+
+      little : (b : Bool) → eqb (get_or bytes 0 0) 108 ≡ b → cond b (Ok false) (cond (eqb (get_or bytes 0 0) 66) (Ok true) (wrong fault.Endian 0)) ≡ Ok big → get_or bytes 0 0 ≡ order_byte big
+      little true is h = same false h (eqb-true _ _ is)
+      little false is h = large (eqb (get_or bytes 0 0) 66) refl h
 
 kind_found : (bytes : List ℕ) (kind : ℕ) → kind_of bytes ≡ Ok kind → (get_or bytes 1 0 ≡ kind) × (0 < kind)
 unfolding kind_of
@@ -126,8 +128,8 @@ start_found bytes s e =
       fields = d.1;
       small = d.2;
     }) where
-  made : Bool → ℕ → ℕ → ℕ → ℕ → ℕ → Start
-  made big kind flags body serial fields = record { big = big; kind = kind; flags = flags; body = body; serial = serial; fields = fields }
+      made : Bool → ℕ → ℕ → ℕ → ℕ → ℕ → Start
+      made big kind flags body serial fields = record { big = big; kind = kind; flags = flags; body = body; serial = serial; fields = fields }
 
 word_split : (big : Bool) (z : List ℕ) → 4 ≤ length z → IsBytes z → z ≡ bytes_of big w32 (number big w32 (take 4 z)) ++ drop 4 z
 word_split big z le fits =
@@ -150,13 +152,14 @@ head_split big (a ∷ b ∷ c ∷ d ∷ y) le fits =
     let d12 : drop 4 (drop 4 (drop 4 y)) ≡ drop 12 y = ap (λ (x : List ℕ). drop 4 x) d8 ∙ drops 4 8 y in
     let three' : drop 4 (drop 4 y) ≡ bytes_of big w32 (number big w32 (take 4 (drop 8 y))) ++ drop 12 y = three ∙ ap (λ (x : List ℕ). bytes_of big w32 (number big w32 (take 4 x)) ++ drop 4 (drop 4 (drop 4 y))) d8 ∙ ap (λ (x : List ℕ). bytes_of big w32 (number big w32 (take 4 (drop 8 y))) ++ x) d12 in
     ap (λ (x : List ℕ). a ∷ b ∷ c ∷ d ∷ x) (one ∙ ap (λ (x : List ℕ). bytes_of big w32 (number big w32 (take 4 y)) ++ x) (two ∙ ap (λ (x : List ℕ). bytes_of big w32 (number big w32 (take 4 (drop 4 y))) ++ x) three')) where
-  none : (n : ℕ) → drop {A = ℕ} n [] ≡ []
-  none zero = refl
-  none (suc n) = refl
-  drops : (n m : ℕ) (z : List ℕ) → drop n (drop m z) ≡ drop (m + n) z
-  drops n zero z = let k : 0 + n ≡ n = omega arith in rw k refl
-  drops n (suc m) [] = none n ∙ sym (none (suc m + n))
-  drops n (suc m) (x ∷ z) = let k : suc m + n ≡ suc (m + n) = omega arith in rw k (drops n m z)
+      none : (n : ℕ) → drop {A = ℕ} n [] ≡ []
+      none zero = refl
+      none (suc n) = refl
+
+      drops : (n m : ℕ) (z : List ℕ) → drop n (drop m z) ≡ drop (m + n) z
+      drops n zero z = let k : 0 + n ≡ n = omega arith in rw k refl
+      drops n (suc m) [] = none n ∙ sym (none (suc m + n))
+      drops n (suc m) (x ∷ z) = let k : suc m + n ≡ suc (m + n) = omega arith in rw k (drops n m z)
 
 first_found : (s : Start) (bytes : List ℕ) → IsBytes bytes → Started bytes s → bytes ≡ first_bytes s.big s.kind s.flags s.body s.serial s.fields (drop 16 bytes)
 unfolding first_bytes
@@ -243,12 +246,12 @@ message_found s bytes x fits st enough e =
     let A = padding (gap 8 (16 + length F)) ++ body in
     let rest : R ≡ (F ++ A) ++ more = restR ∙ ap (λ (y : List ℕ). y ++ (tail ++ more)) F_is ∙ ap (λ (y : List ℕ). F ++ (y ++ more)) tail_is ∙ sym (append_assoc F A more) in
     let made : bytes ≡ first_bytes s.big s.kind s.flags (length body) s.serial (length F) ((F ++ A) ++ more) =
-        first ∙ ap (λ (y : List ℕ). first_bytes s.big s.kind s.flags s.body s.serial s.fields y) rest ∙ ap (λ (q : ℕ). first_bytes s.big s.kind s.flags q s.serial s.fields ((F ++ A) ++ more)) lB ∙ ap (λ (q : ℕ). first_bytes s.big s.kind s.flags (length body) s.serial q ((F ++ A) ++ more)) lF' in
+    first ∙ ap (λ (y : List ℕ). first_bytes s.big s.kind s.flags s.body s.serial s.fields y) rest ∙ ap (λ (q : ℕ). first_bytes s.big s.kind s.flags q s.serial s.fields ((F ++ A) ++ more)) lB ∙ ap (λ (q : ℕ). first_bytes s.big s.kind s.flags (length body) s.serial q ((F ++ A) ++ more)) lF' in
     let wa = bytes_of s.big w32 (length body) in
     let wb = bytes_of s.big w32 s.serial in
     let wc = bytes_of s.big w32 (length F) in
     let regroup : first_bytes s.big s.kind s.flags (length body) s.serial (length F) ((F ++ A) ++ more) ≡ message_bytes s.big m ++ more =
-        sym (ap (λ (y : List ℕ). order_byte s.big ∷ s.kind ∷ s.flags ∷ 1 ∷ y) (append_assoc wa (wb ++ (wc ++ (F ++ A))) more ∙ ap (λ (y : List ℕ). wa ++ y) (append_assoc wb (wc ++ (F ++ A)) more ∙ ap (λ (y : List ℕ). wb ++ y) (append_assoc wc (F ++ A) more)))) in
+    sym (ap (λ (y : List ℕ). order_byte s.big ∷ s.kind ∷ s.flags ∷ 1 ∷ y) (append_assoc wa (wb ++ (wc ++ (F ++ A))) more ∙ ap (λ (y : List ℕ). wa ++ y) (append_assoc wb (wc ++ (F ++ A)) more ∙ ap (λ (y : List ℕ). wb ++ y) (append_assoc wc (F ++ A) more)))) in
     let size : length (message_bytes s.big m) ≡ 16 + (length F + gap 8 (length F)) + length body = omega (arith, length-first s.big s.kind s.flags (length body) s.serial (length F) (F ++ A), length-append F A, length-append (padding (gap 8 (16 + length F))) body, length-padding (gap 8 (16 + length F)), gap_16 (length F)) in
     let small : 16 + (length F + gap 8 (length F)) + length body ≤ 16777216 = subst (λ (q : ℕ). 16 + (q + gap 8 q) + length body ≤ 16777216) lF' (subst (λ (q : ℕ). 16 + (s.fields + gap 8 s.fields) + q ≤ 16777216) lB st.small) in
     let kind_byte = fits 1 in
@@ -291,14 +294,18 @@ pub whole_found : (bytes : List ℕ) (x : Seen) (used : ℕ) → IsBytes bytes �
 whole_found bytes x used fits e = started (start_of bytes) refl e where
   partial : Partial ≡ Whole x used → ⊥
   partial h = cc
+
   faulty : (k : _) (n : ℕ) → Bad k n ≡ Whole x used → ⊥
   faulty k n h = cc
+
   read : (s : Start) → start_of bytes ≡ Ok s → total s ≤ length bytes → (r : Result (Header × (ℕ × Spot)) Fault) → message_of s bytes ≡ r → message_on s r ≡ Whole x used → MessageRead bytes x used
   read s is enough (Ok y) got h = found_read bytes x used (message_found s bytes y fits (start_found bytes s is) enough got) e
   read s is enough (Err f) got h = absurd (faulty f.kind f.at h)
+
   sized : (s : Start) → start_of bytes ≡ Ok s → (b : Bool) → ltb (length bytes) (total s) ≡ b → cond b Partial (message_on s (message_of s bytes)) ≡ Whole x used → MessageRead bytes x used
   sized s is true lt h = absurd (partial h)
   sized s is false lt h = read s is (ltb-false _ _ lt) (message_of s bytes) refl h
+
   started : (r : Result Start Stop) → start_of bytes ≡ r → start_on bytes r ≡ Whole x used → MessageRead bytes x used
   started (Err stop.Partial) is h = absurd (partial h)
   started (Err (stop.Bad f)) is h = absurd (faulty f.kind f.at h)

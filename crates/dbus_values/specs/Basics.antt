@@ -44,7 +44,7 @@ byte_at at (b ∷ bytes) = Ok (b, spot_at (at + 1) bytes)
 unfoldable pub ended : ℕ → ℕ → ℕ → List ℕ → Result (List ℕ × Spot) Fault
 ended at n here bytes =
     if nat_lt n (length bytes) then
-        (if slice_index bytes n == 0 then Ok (take n bytes, spot_at (here + n + 1) (drop (n + 1) bytes)) else bad fault.Text at)
+    (if slice_index bytes n == 0 then Ok (take n bytes, spot_at (here + n + 1) (drop (n + 1) bytes)) else bad fault.Text at)
     else bad fault.Length at
 
 -- UTF-8 without a byte 0

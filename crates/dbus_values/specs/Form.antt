@@ -99,5 +99,15 @@ pub record WireForm (bytes : List ℕ) (m : Message) : Type 0 where
 
 -- a message as it is shown: its header values and the flat list of the parts of its body
 abbrev pub shown_of : Message → Seen
-shown_of m = record { kind = m.kind; flags = m.flags; serial = m.serial; path = (header_of m).path; interface = (header_of m).interface; member = (header_of m).member; error_name = (header_of m).error_name;
-    reply_serial = (header_of m).reply_serial; signature = types_of m.body; parts = all_pieces m.body }
+shown_of m = record {
+  kind = m.kind;
+  flags = m.flags;
+  serial = m.serial;
+  path = (header_of m).path;
+  interface = (header_of m).interface;
+  member = (header_of m).member;
+  error_name = (header_of m).error_name;
+  reply_serial = (header_of m).reply_serial;
+  signature = types_of m.body;
+  parts = all_pieces m.body;
+}

@@ -23,8 +23,17 @@ pub record Header : Type 0 where
   pub unix_fds : Bool
 
 abbrev pub header : Fields → Header
-header f = record { path = option_map (λ b. b.now) f.path; interface = option_map (λ b. b.now) f.interface; member = option_map (λ b. b.now) f.member; error_name = option_map (λ b. b.now) f.error_name;
-    reply_serial = f.reply_serial; destination = f.destination; sender = f.sender; signature = option_map (λ b. b.now) f.signature; unix_fds = f.unix_fds }
+header f = record {
+  path = option_map (λ b. b.now) f.path;
+  interface = option_map (λ b. b.now) f.interface;
+  member = option_map (λ b. b.now) f.member;
+  error_name = option_map (λ b. b.now) f.error_name;
+  reply_serial = f.reply_serial;
+  destination = f.destination;
+  sender = f.sender;
+  signature = option_map (λ b. b.now) f.signature;
+  unix_fds = f.unix_fds;
+}
 
 abbrev pub no_fields : Header
 no_fields = record { path = None; interface = None; member = None; error_name = None; reply_serial = None; destination = false; sender = false; signature = None; unix_fds = false }
@@ -66,7 +75,7 @@ unfoldable pub known_field : Bool → ℕ → ℕ → Header → ℕ → List �
 known_field big start c h at bytes = do
   s ← signature_at at bytes
   if not (length s.0 == 1) || not (slice_index s.0 0 == type_code c) then bad fault.Fields start else
-    (if type_code c == 117 then number_field big start c h s.1.at s.1.rest else text_field big c h s.1.at s.1.rest)
+      (if type_code c == 117 then number_field big start c h s.1.at s.1.rest else text_field big c h s.1.at s.1.rest)
 
 -- An unknown field behind its code: a variant, which is passed over. It stands in an array and a structure,
 -- so at most 62 more containers stand inside each other, the variant too.
@@ -79,7 +88,7 @@ field_at big h at bytes = do
   p ← pad 8 at bytes
   c ← byte_at p.at p.rest
   if (c.0 == 0) || has h c.0 then bad fault.Fields p.at else
-    (if nat_lt c.0 10 then known_field big p.at c.0 h c.1.at c.1.rest else (passed_field big c.1.at c.1.rest >>= λ x. Ok (h, x)))
+      (if nat_lt c.0 10 then known_field big p.at c.0 h c.1.at c.1.rest else (passed_field big c.1.at c.1.rest >>= λ x. Ok (h, x)))
 
 -- The fields up to the end of the bytes. The steps count down.
 unfoldable pub fields_at : ℕ → Bool → Header → ℕ → List ℕ → Result Header Fault

@@ -32,8 +32,18 @@ abbrev pub parts_of : WireMessage → List Piece
 parts_of m = parts m.parts 64 m.big (state [] m.signature.now m.body.at m.body.rest.now)
 
 abbrev pub seen : WireMessage → Seen
-seen m = record { kind = m.kind; flags = m.flags; serial = m.serial; path = option_map (λ b. b.now) m.path; interface = option_map (λ b. b.now) m.interface; member = option_map (λ b. b.now) m.member;
-    error_name = option_map (λ b. b.now) m.error_name; reply_serial = m.reply_serial; signature = m.signature.now; parts = parts_of m }
+seen m = record {
+  kind = m.kind;
+  flags = m.flags;
+  serial = m.serial;
+  path = option_map (λ b. b.now) m.path;
+  interface = option_map (λ b. b.now) m.interface;
+  member = option_map (λ b. b.now) m.member;
+  error_name = option_map (λ b. b.now) m.error_name;
+  reply_serial = m.reply_serial;
+  signature = m.signature.now;
+  parts = parts_of m;
+}
 
 -- what is at the front: a whole message of so many bytes, less than one, or the first fault and its place
 pub data Answer : Type 0 where
@@ -48,8 +58,18 @@ answer (next.Bad kind at) = Bad kind at
 
 -- a message of these fields, of a body with so many parts from this place
 abbrev pub shown : Start → Header → ℕ → Spot → Seen
-shown s h n p = record { kind = s.kind; flags = s.flags; serial = s.serial; path = h.path; interface = h.interface; member = h.member; error_name = h.error_name; reply_serial = h.reply_serial;
-    signature = signature_of h; parts = parts n 64 s.big (state [] (signature_of h) p.at p.rest) }
+shown s h n p = record {
+  kind = s.kind;
+  flags = s.flags;
+  serial = s.serial;
+  path = h.path;
+  interface = h.interface;
+  member = h.member;
+  error_name = h.error_name;
+  reply_serial = h.reply_serial;
+  signature = signature_of h;
+  parts = parts n 64 s.big (state [] (signature_of h) p.at p.rest);
+}
 
 abbrev pub message_on : Start → Result (Header × (ℕ × Spot)) Fault → Answer
 message_on s (Ok x) = Whole (shown s x.0 x.1.0 x.1.1) (total s)

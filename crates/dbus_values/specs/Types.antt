@@ -43,4 +43,3 @@ is_basic class.Entry = false
 is_basic class.Variant = false
 is_basic class.Other = false
 is_basic _ = true
-

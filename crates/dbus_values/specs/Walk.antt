@@ -94,8 +94,8 @@ enter_item limit big fs (c ∷ sig) at bytes = if c == 123 then enter_entry limi
 unfoldable pub in_items : ℕ → Bool → List Open → List ℕ → List ℕ → ℕ → List ℕ → List ℕ → ℕ → List ℕ → Result (Piece × State) Fault
 in_items limit big fs item behind place outside types at bytes =
     if length types == 0 then
-        (if length bytes == 0 then resumed (part.Leave 97) fs behind place outside
-        else enter_item limit big (open_part.Items item behind place outside ∷ fs) item at bytes)
+    (if length bytes == 0 then resumed (part.Leave 97) fs behind place outside
+    else enter_item limit big (open_part.Items item behind place outside ∷ fs) item at bytes)
     else bad fault.Text at
 
 -- the next member of a structure, or its end

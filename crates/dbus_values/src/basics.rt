@@ -120,7 +120,9 @@ pub fn u64_at(big: bool, from: Cursor) -> Result<(u64, Cursor), Fault>
         return Err(Fault::new(FaultKind::Length, from.at));
     }
     let (front, rest) = from.rest.split_at(8);
-    let bytes = [front[0], front[1], front[2], front[3], front[4], front[5], front[6], front[7],];
+    let bytes = [
+        front[0], front[1], front[2], front[3], front[4], front[5], front[6], front[7],
+    ];
     let number = if big {
         u64::from_be_bytes(bytes)
     } else {
@@ -134,4 +136,3 @@ pub fn u64_at(big: bool, from: Cursor) -> Result<(u64, Cursor), Fault>
         },
     ))
 }
-

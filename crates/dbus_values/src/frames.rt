@@ -25,7 +25,9 @@ pub enum Frame<'a> {
     /// A dict entry, which ends next.
     Closing,
     /// A variant: the types behind it.
-    Inner { types: &'a [u8] },
+    Inner {
+        types: &'a [u8],
+    },
 }
 
 /// At most 64 open containers, seen as a list, the innermost first.

@@ -31,7 +31,10 @@ pub enum Next<'a> {
     /// The first fault from the front, and its place, counted from the first byte: of the byte,
     /// the number, the field, the text or the byte of padding that is wrong. A field that lacks
     /// has the place 12.
-    Bad { kind: FaultKind, at: usize },
+    Bad {
+        kind: FaultKind,
+        at: usize,
+    },
 }
 
 /// How many parts the body has, which is read by its signature to its last byte.
@@ -98,10 +101,7 @@ fn signature_of<'a>(fields: &Fields<'a>) -> &'a [u8]
 
 /// The fields and the body behind the first 16 bytes.
 #[tactic(auto, unfolding(crate::specs::Messages::message_of))]
-fn message_of<'a>(
-    first: Start,
-    bytes: &'a [u8],
-) -> Result<(Fields<'a>, (usize, Cursor<'a>)), Fault>
+fn message_of<'a>(first: Start, bytes: &'a [u8]) -> Result<(Fields<'a>, (usize, Cursor<'a>)), Fault>
     requires short { total (start first) ≤ 16777216 }
     requires there { total (start first) ≤ length bytes.now }
     ensures exact { Gives (λ x. (header x.0, (x.1.0, spot x.1.1))) result (message_of (start first) bytes.now) }

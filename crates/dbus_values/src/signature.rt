@@ -12,13 +12,7 @@ fn behind(letter: u8, sig: &[u8]) -> Option<&[u8]>
 {
     match sig {
         [] => None,
-        [c, rest @ ..] => {
-            if *c == letter {
-                Some(rest)
-            } else {
-                None
-            }
-        }
+        [c, rest @ ..] => { if *c == letter { Some(rest) } else { None } }
     }
 }
 

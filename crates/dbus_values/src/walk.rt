@@ -404,7 +404,12 @@ fn in_items<'a>(
     if sig.len() == 0 {
         if from.rest.len() == 0 {
             frames.pop();
-            resumed(frames, Part::Leave { kind: b'a' }, array.types, array.behind)
+            resumed(
+                frames,
+                Part::Leave { kind: b'a' },
+                array.types,
+                array.behind,
+            )
         } else {
             enter_item(limit, big, frames, array.item, from)
         }
