@@ -1,0 +1,21 @@
+use Rattle.std.proofs.Common.{◌≡◌, ◌<◌, sym, arith, length}
+use Rattle.std.proofs.Math.ListN.{set, length-set}
+use Rattle.dbus_values.proofs.Stack.{length-seen, seen, seen_set, within_set}
+use Rattle.dbus_values.proofs.frames.Frames.push.Goals as goal
+
+pub bounds-self-inside-self-inside : goal.bounds-self-inside-self-inside
+bounds-self-inside-self-inside c =
+    let k : length (seen c.self.inside.len c.self.inside.frames) < 64 = rw c.self.view_is c.requires.room in
+    omega (arith, length-seen c.self.inside.len c.self.inside.frames (omega arith))
+
+pub invariant_of-self : goal.invariant_of-self
+invariant_of-self c =
+    let k : length (seen c.self.inside.len c.self.inside.frames) < 64 = rw c.self.view_is c.requires.room in
+    let lt : c.self.inside.len < length c.self.inside.frames = omega (arith, length-seen c.self.inside.len c.self.inside.frames (omega arith)) in
+    (omega arith, omega (arith, length-set c.self.inside.frames c.self.inside.len c.args.frame), within_set c.self.inside.frames c.self.inside.len c.args.frame c.self.invariant.2 lt c.requires.within)
+
+pub returns : goal.returns
+returns c =
+    let k : length (seen c.self.inside.len c.self.inside.frames) < 64 = rw c.self.view_is c.requires.room in
+    let lt : c.self.inside.len < length c.self.inside.frames = omega (arith, length-seen c.self.inside.len c.self.inside.frames (omega arith)) in
+    rw (← c.self.view_is) (record { opened = seen_set c.self.inside.len c.self.inside.frames c.args.frame lt })

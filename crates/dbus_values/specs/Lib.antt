@@ -1,0 +1,14 @@
+pub mod Types
+pub mod Reading
+pub mod Parts
+pub mod Signatures
+pub mod Basics
+pub mod Opened
+pub mod Walk
+pub mod Header
+pub mod Messages
+pub mod Starts
+pub mod Next
+pub mod Trees
+pub mod Form
+pub mod Streams

@@ -1,0 +1,43 @@
+-- The containers that are open at a place.
+use Rattle.std.specs.Prelude.{ℕ, ◌+◌, ◌<◌, ◌≤◌, List, [], ◌∷◌, length, slice_index_or, Option, Some, None}
+use Rattle.dbus_values.specs.declared.frames.Frame.{Frame}
+use Rattle.dbus_values.specs.declared.frames.Frame.TheVariants as frame
+
+-- An array, with the signature of its items, the types behind it, and the place and the bytes behind it; a
+-- structure; a dict entry, of which the key, the value or the end comes next; a variant, with the types
+-- behind it.
+pub data Open : Type 0 where
+  Items : List ℕ → List ℕ → ℕ → List ℕ → Open
+  Members : Open
+  Key : Open
+  Value : Open
+  Closing : Open
+  Inner : List ℕ → Open
+
+abbrev pub opened : Frame → Open
+opened (frame.Items item types behind outside) = Items item.now types.now behind outside.now
+opened frame.Members = Members
+opened frame.Key = Key
+opened frame.Value = Value
+opened frame.Closing = Closing
+opened (frame.Inner types) = Inner types.now
+
+-- the bytes behind an array lie within the longest message
+abbrev pub IsWithin : Frame → Type 0
+IsWithin (frame.Items item types behind outside) = behind + length outside.now ≤ 16777216
+IsWithin frame.Members = Unit {0}
+IsWithin frame.Key = Unit {0}
+IsWithin frame.Value = Unit {0}
+IsWithin frame.Closing = Unit {0}
+IsWithin (frame.Inner types) = Unit {0}
+
+abbrev pub innermost : List Open → Option Open
+innermost [] = None
+innermost (f ∷ fs) = Some f
+
+abbrev pub outer : List Open → List Open
+outer [] = []
+outer (f ∷ fs) = fs
+
+abbrev pub AllWithin : List Frame → Type 0
+AllWithin frames = (i : ℕ) (d : Frame) → i < length frames → IsWithin (slice_index_or frames i d)

@@ -1,0 +1,100 @@
+// The containers that are open, the innermost first.
+ghost use Rattle.std.specs.Prelude.{◌≡◌, ◌<◌, ◌∷◌, length, [], IfSome};
+ghost use Rattle.std.specs.Option.{option_map};
+ghost use Rattle.dbus_values.specs.Opened.{opened, innermost, outer, IsWithin};
+
+use std::marker::Model;
+
+/// A container that is open, with what comes behind it.
+#[derive(Clone, Copy)]
+pub enum Frame<'a> {
+    /// An array: the signature of its items, the types behind it, the place behind it and the
+    /// bytes from there on.
+    Items {
+        item: &'a [u8],
+        types: &'a [u8],
+        behind: usize,
+        outside: &'a [u8],
+    },
+    /// A structure.
+    Members,
+    /// A dict entry, of which the key comes next.
+    Key,
+    /// A dict entry, of which the value comes next.
+    Value,
+    /// A dict entry, which ends next.
+    Closing,
+    /// A variant: the types behind it.
+    Inner {
+        types: &'a [u8],
+    },
+}
+
+/// At most 64 open containers, seen as a list, the innermost first.
+#[derive(Drop)]
+pub struct Frames<'a> {
+    frames: [Frame<'a>; 64],
+    len: usize,
+}
+
+impl<'a> Model for Frames<'a> {
+    ghost use Rattle.std.specs.Prelude.{List, map, reverse, take, length, ◌≤◌, ◌≡◌, ◌<◌, ℕ, slice_index_or};
+    ghost use Rattle.dbus_values.specs.Opened.{Open, opened, AllWithin};
+
+    ghost Value = { List Open };
+
+    ghost view = { λ s. map opened (reverse (take s.len s.frames)) };
+
+    ghost invariant = { λ s. (s.len ≤ 64) × (length s.frames ≡ 64) × AllWithin s.frames };
+}
+
+impl<'a> Frames<'a> {
+    /// None is open.
+    pub fn new() -> Frames<'a>
+        ensures empty { result ≡ [] }
+    {
+        Frames {
+            frames: [Frame::Members; 64],
+            len: 0,
+        }
+    }
+
+    /// How many are open.
+    pub fn len(&self) -> usize
+        ensures length { result ≡ length self.now }
+    {
+        self.len
+    }
+
+    /// Opens one more.
+    pub fn push(&mut self, frame: Frame<'a>)
+        requires room { length self.old < 64 }
+        requires within { IsWithin frame }
+        ensures opened { self.new ≡ opened frame.entry ∷ self.old }
+    {
+        self.frames[self.len] = frame;
+        self.len += 1;
+    }
+
+    /// The innermost.
+    pub fn top(&self) -> Option<Frame<'a>>
+        ensures innermost { option_map opened result ≡ innermost self.now }
+        ensures within { IfSome result IsWithin }
+    {
+        if self.len == 0 {
+            None
+        } else {
+            Some(self.frames[self.len - 1])
+        }
+    }
+
+    /// Closes the innermost.
+    pub fn pop(&mut self)
+        ensures outer { self.new ≡ outer self.old }
+        ensures room { length self.new < 64 }
+    {
+        if self.len > 0 {
+            self.len -= 1;
+        }
+    }
+}

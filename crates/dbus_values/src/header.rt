@@ -1,0 +1,208 @@
+// The header fields, one after the other.
+ghost use Rattle.std.specs.Prelude.{◌≡◌, ◌+◌, ◌≤◌, ◌<◌, ◌^◌, length};
+ghost use Rattle.dbus_values.specs.Reading.{Gives};
+ghost use Rattle.dbus_values.specs.Parts.{spot};
+ghost use Rattle.dbus_values.specs.Header.{header, no_fields, has, put_text, put_number, type_code, number_field, text_field, known_field, passed_field, field_at, fields_at, lacks};
+
+use crate::basics::{byte_at, pad, u32_at};
+use crate::class::{align, class_for};
+use crate::cursor::Cursor;
+use crate::fault::{Fault, FaultKind};
+use crate::fields::Fields;
+use crate::strings::{signature_at, string_at};
+use crate::walk::values_at;
+
+impl<'a> Fields<'a> {
+    /// Whether there is the field of this code.
+    fn has(&self, code: u8) -> bool
+        ensures exact { result ≡ has (header self.now) code }
+    {
+        match code {
+            1 => self.path.is_some(),
+            2 => self.interface.is_some(),
+            3 => self.member.is_some(),
+            4 => self.error_name.is_some(),
+            5 => self.reply_serial.is_some(),
+            6 => self.destination,
+            7 => self.sender,
+            8 => self.signature.is_some(),
+            9 => self.unix_fds,
+            _ => false,
+        }
+    }
+
+    /// The fields with one more, of a text type.
+    fn with_text(self, code: u8, text: &'a [u8]) -> Fields<'a>
+        ensures exact { header result ≡ put_text (header self.entry) code text.now }
+    {
+        let mut fields = self;
+        match code {
+            1 => fields.path = Some(text),
+            2 => fields.interface = Some(text),
+            3 => fields.member = Some(text),
+            4 => fields.error_name = Some(text),
+            6 => fields.destination = true,
+            7 => fields.sender = true,
+            8 => fields.signature = Some(text),
+            _ => {}
+        }
+        fields
+    }
+
+    /// The fields with one more, of type `u`.
+    fn with_number(self, code: u8, number: u32) -> Fields<'a>
+        ensures exact { header result ≡ put_number (header self.entry) code number }
+    {
+        let mut fields = self;
+        match code {
+            5 => fields.reply_serial = Some(number),
+            9 => fields.unix_fds = true,
+            _ => {}
+        }
+        fields
+    }
+
+    /// Whether a field lacks that a message of this type needs.
+    pub fn lacks(&self, kind: u8) -> bool
+        ensures exact { result ≡ lacks kind (header self.now) }
+    {
+        match kind {
+            1 => !self.path.is_some() || !self.member.is_some(),
+            2 => !self.reply_serial.is_some(),
+            3 => !self.error_name.is_some() || !self.reply_serial.is_some(),
+            4 => !self.path.is_some() || !self.interface.is_some() || !self.member.is_some(),
+            _ => false,
+        }
+    }
+}
+
+/// The type code of a known field.
+fn type_code(code: u8) -> u8
+    ensures exact { result ≡ type_code code }
+{
+    match code {
+        1 => b'o',
+        5 | 9 => b'u',
+        8 => b'g',
+        _ => b's',
+    }
+}
+
+/// A field of type `u`, the structure of which begins at `start`.
+#[tactic(auto, unfolding(crate::specs::Header::number_field))]
+fn number_field<'a>(
+    big: bool,
+    start: usize,
+    code: u8,
+    fields: Fields<'a>,
+    from: Cursor<'a>,
+) -> Result<(Fields<'a>, Cursor<'a>), Fault>
+    ensures exact { Gives (λ x. (header x.0, spot x.1)) result (number_field big start code (header fields.entry) from.entry.at from.entry.rest.now) }
+{
+    let here = pad(4, from)?;
+    let (number, after) = u32_at(big, here)?;
+    if code == 5 && number == 0 {
+        return Err(Fault::new(FaultKind::Fields, start));
+    }
+    Ok((fields.with_number(code, number), after))
+}
+
+/// A field of a text type.
+#[tactic(auto, unfolding(crate::specs::Header::text_field))]
+fn text_field<'a>(
+    big: bool,
+    code: u8,
+    fields: Fields<'a>,
+    from: Cursor<'a>,
+) -> Result<(Fields<'a>, Cursor<'a>), Fault>
+    ensures exact { Gives (λ x. (header x.0, spot x.1)) result (text_field big code (header fields.entry) from.entry.at from.entry.rest.now) }
+{
+    let class = class_for(type_code(code));
+    let here = pad(align(class), from)?;
+    let (text, after) = string_at(class, big, here)?;
+    Ok((fields.with_text(code, text), after))
+}
+
+/// A known field behind its code; the field's structure begins at `start`.
+#[tactic(auto, unfolding(crate::specs::Header::known_field))]
+fn known_field<'a>(
+    big: bool,
+    start: usize,
+    code: u8,
+    fields: Fields<'a>,
+    from: Cursor<'a>,
+) -> Result<(Fields<'a>, Cursor<'a>), Fault>
+    ensures exact { Gives (λ x. (header x.0, spot x.1)) result (known_field big start code (header fields.entry) from.entry.at from.entry.rest.now) }
+{
+    let (signature, rest) = signature_at(from)?;
+    if signature.len() != 1 || signature[0] != type_code(code) {
+        return Err(Fault::new(FaultKind::Fields, start));
+    }
+    if type_code(code) == b'u' {
+        number_field(big, start, code, fields, rest)
+    } else {
+        text_field(big, code, fields, rest)
+    }
+}
+
+/// An unknown field behind its code, a variant, which is passed over.
+#[tactic(auto, unfolding(crate::specs::Header::passed_field))]
+fn passed_field<'a>(big: bool, from: Cursor<'a>) -> Result<Cursor<'a>, Fault>
+    ensures exact { Gives spot result (passed_field big from.entry.at from.entry.rest.now) }
+{
+    let (_, after) = values_at(62, big, b"v", from)?;
+    Ok(after)
+}
+
+/// A field.
+#[tactic(auto, unfolding(crate::specs::Header::field_at))]
+fn field_at<'a>(
+    big: bool,
+    fields: Fields<'a>,
+    from: Cursor<'a>,
+) -> Result<(Fields<'a>, Cursor<'a>), Fault>
+    ensures exact { Gives (λ x. (header x.0, spot x.1)) result (field_at big (header fields.entry) from.entry.at from.entry.rest.now) }
+{
+    let here = pad(8, from)?;
+    let (code, rest) = byte_at(here)?;
+    if code == 0 || fields.has(code) {
+        return Err(Fault::new(FaultKind::Fields, here.at));
+    }
+    if code < 10 {
+        return known_field(big, here.at, code, fields, rest);
+    }
+    let after = passed_field(big, rest)?;
+    Ok((fields, after))
+}
+
+/// The fields up to the end of the bytes.
+#[tactic(auto, using(crate::proofs::Loops::fields_rules))]
+pub fn fields_at<'a>(big: bool, from: Cursor<'a>) -> Result<Fields<'a>, Fault>
+    ensures exact { Gives header result (fields_at (length from.entry.rest.now) big no_fields from.entry.at from.entry.rest.now) }
+{
+    let mut fields = Fields {
+        path: None,
+        interface: None,
+        member: None,
+        error_name: None,
+        reply_serial: None,
+        destination: false,
+        sender: false,
+        signature: None,
+        unix_fds: false,
+    };
+    let mut here = from;
+    for i in 0..from.rest.len() {
+        if here.rest.is_empty() {
+            return Ok(fields);
+        }
+        let (more, after) = field_at(big, fields, here)?;
+        fields = more;
+        here = after;
+    }
+    if here.rest.is_empty() {
+        Ok(fields)
+    } else {
+        Err(Fault::new(FaultKind::Length, here.at))
+    }
+}

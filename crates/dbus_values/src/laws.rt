@@ -1,0 +1,32 @@
+// Laws about the form of values and messages. Each is the contract of a function that does nothing.
+ghost use Rattle.std.specs.Prelude.{◌≡◌, ◌+◌, ◌≤◌, ℕ, Bool, List, ◌++◌, length, Ok};
+ghost use Rattle.dbus_values.specs.Reading.{spot_at};
+ghost use Rattle.dbus_values.specs.Walk.{Walked, walked, values_at};
+ghost use Rattle.dbus_values.specs.Trees.{Trees, types_of, all_marshalled, all_pieces, AllFit};
+ghost use Rattle.dbus_values.specs.Next.{Seen};
+ghost use Rattle.dbus_values.specs.Streams.{IsForm, Stream, IsBytes};
+
+/// Values that were marshalled are read again by their signature, whatever follows them, in either
+/// byte order and at any place.
+pub fn values_are_read_again()
+    ensures again { (d : ℕ) (big : Bool) (ts : Trees) (at : ℕ) (rest : List ℕ) → d ≤ 64 → AllFit d ts → length (all_marshalled big at ts) ≤ 16777216
+        → values_at d big (types_of ts) at (all_marshalled big at ts ++ rest) ≡ Ok (walked (length (all_pieces ts)) (spot_at (at + length (all_marshalled big at ts)) rest)) }
+{}
+
+/// What is read by a signature is the marshalled form of values that fit, to the last byte that
+/// was read.
+pub fn values_read_have_a_form()
+    ensures found { (d : ℕ) (big : Bool) (sig : List ℕ) (at : ℕ) (bytes : List ℕ) (w : Walked) → IsBytes bytes → values_at d big sig at bytes ≡ Ok w
+        → (ts : Trees) × AllFit d ts × (sig ≡ types_of ts) × (bytes ≡ all_marshalled big at ts ++ w.rest) }
+{}
+
+/// No message begins another: two messages at the front of the same bytes are one, and are shown
+/// alike.
+pub fn no_message_begins_another()
+    ensures one { (a b x y : List ℕ) (s t : Seen) → IsForm a s → IsForm b t → a ++ x ≡ b ++ y → (a ≡ b) × (s ≡ t) }
+{}
+
+/// The messages of a stream are no others, and neither is its rest.
+pub fn a_stream_has_one_reading()
+    ensures one { (bytes : List ℕ) (ss ts : List Seen) (r q : List ℕ) → Stream bytes ss r → Stream bytes ts q → (ss ≡ ts) × (r ≡ q) }
+{}

@@ -1,0 +1,33 @@
+//! Messages of the D-Bus Specification, read and written exactly.
+//!
+//! [`next_message`] reads the message at the front of a stream of bytes, in either byte order,
+//! without taking memory: what it gives borrows from the bytes. [`WireMessage::body`] gives the
+//! parts of a message's body one by one.
+#![tactic(auto)]
+
+mod basics;
+mod bodies;
+mod class;
+mod cursor;
+mod fault;
+mod fields;
+mod frames;
+mod header;
+pub mod laws;
+mod message;
+mod part;
+mod parts;
+mod signature;
+mod start;
+mod strings;
+mod walk;
+mod wire_message;
+
+pub use fault::FaultKind;
+pub use message::{Next, next_message};
+pub use part::Part;
+pub use parts::Parts;
+pub use wire_message::WireMessage;
+
+#[cfg(test)]
+mod tests;
