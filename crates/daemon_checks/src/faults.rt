@@ -38,7 +38,11 @@ fn a_read_fault_leaves_whole_lines_answered(rt: HostRuntime) -> Result<(), Fail>
         } else {
             assert_eq!(rt; ended.status.as_str(), "Done", "call {fault}");
         }
-        assert_eq!(rt; ended.written.as_slice(), want.written.as_slice(), "call {fault}");
+        assert_eq!(rt;
+            ended.written.as_slice(),
+            want.written.as_slice(),
+            "call {fault}"
+        );
         given = given.saturating_add(16);
     }
     Ok(())
@@ -55,9 +59,16 @@ fn a_write_fault_leaves_a_front(rt: HostRuntime) -> Result<(), Fail> {
             ..SMOOTH
         };
         let ended = run(&rt, alloc, &["replay"], SCENARIO.as_bytes(), ways)?;
-        assert!(rt; ANSWERS.as_bytes().starts_with(ended.written.as_slice()), "call {fault}");
+        assert!(rt;
+            ANSWERS.as_bytes().starts_with(ended.written.as_slice()),
+            "call {fault}"
+        );
         if ended.code == 0 {
-            assert_eq!(rt; ended.written.as_slice(), ANSWERS.as_bytes(), "call {fault}");
+            assert_eq!(rt;
+                ended.written.as_slice(),
+                ANSWERS.as_bytes(),
+                "call {fault}"
+            );
             whole = whole.saturating_add(1);
         } else {
             assert_eq!(rt; ended.status.as_str(), "WriteFault", "call {fault}");

@@ -32,7 +32,7 @@ pub const SMOOTH: Ways = Ways {
     write_fault: 0,
 };
 
-/// The room of the output, in bytes.
+/// The most bytes that are read, and the room of the output.
 const ROOM: usize = 65536;
 
 fn words_of(alloc: Global, words: &[&str]) -> Result<TextList, Fail> {
@@ -43,7 +43,7 @@ fn words_of(alloc: Global, words: &[&str]) -> Result<TextList, Fail> {
     Ok(list)
 }
 
-/// Runs the daemon with these words over this input.
+/// Runs the daemon with these words over this input, of which the first 65,536 bytes count.
 pub fn run<R: Threads + Wait + Sync>(
     rt: &R,
     alloc: Global,
@@ -52,6 +52,7 @@ pub fn run<R: Threads + Wait + Sync>(
     ways: Ways,
 ) -> Result<Ended, Fail> {
     let words = words_of(alloc, words)?;
+    let (input, _) = input.split_at(input.len().min(ROOM));
     let bytes = input.to_vec(alloc)?;
     let mut source = ByteSource::new(
         bytes,
