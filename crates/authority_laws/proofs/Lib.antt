@@ -1,0 +1,5 @@
+pub mod Deciding
+pub mod Returning
+pub mod Access
+pub mod Calls
+pub mod Tracing
