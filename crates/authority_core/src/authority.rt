@@ -5,6 +5,7 @@ ghost use Rattle.authority_model.specs.declared.journal.History.{History as TheH
 ghost use Rattle.authority_model.specs.Built.{IsBuiltEvent, IsBuiltLoad};
 ghost use Rattle.authority_model.specs.Items.{items_of, policy_of};
 ghost use Rattle.authority_model.specs.Legal.{IsLegal, last_moment};
+ghost use Rattle.authority_model.specs.Licensed.{AllLicensed};
 ghost use Rattle.authority_model.specs.Given.{event_given, load_given, next, Grows};
 ghost use Rattle.authority_model.specs.Deciding.{decision as decision_on, told_decision};
 ghost use Rattle.authority_model.specs.Grants.{kept};
@@ -96,10 +97,12 @@ impl Authority {
         })
     }
 
-    /// The journal. It is legal: each event was answered as the definitions say.
+    /// The journal. It is legal: each event was answered as the definitions say. And each yes in it
+    /// is licensed at its place, by what polkit allows a yes for.
     pub fn history(&self) -> &History
         ensures same { result.now ≡ self.now }
         ensures legal { IsLegal self.now }
+        ensures licensed { AllLicensed (items_of self.now) }
     {
         &self.history
     }

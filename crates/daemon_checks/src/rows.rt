@@ -6,12 +6,12 @@ use std::test::Fail;
 type Row = (&'static str, &'static str, &'static str, u8);
 
 const CHECKS: &str =
-    "process 1 1 0 -\nprocess 51 8 1000 -\nprocess 60 9 1001 -\naction a.yes yes yes yes\naction a.no no no no\npeer 1 1000\npeer 2 0\ncheck 1 1 process:51:8 a.yes\ncheck 1 2 process:51:8 a.no\ncheck 2 1 process:1:1 a.no\ncheck 1 4 process:60:9 a.yes\ncheck 1 5 process:9:9 a.none\ncheck 1 6 process:9:9 a.yes\n";
+    "process 1 1 0 -\nprocess 51 8 1000 -\nprocess 60 9 1001 -\naction a.yes yes yes yes\naction a.no no no no\naction a.self no no auth_self\naction a.admin auth_admin auth_admin auth_admin\npeer 1 1000\npeer 2 0\ncheck 1 1 process:51:8 a.yes\ncheck 1 2 process:51:8 a.no\ncheck 1 3 process:51:8 a.admin\ncheck 2 1 process:1:1 a.no\ncheck 1 4 process:60:9 a.yes\ncheck 2 2 process:60:9 a.self\ncheck 1 5 process:9:9 a.none\ncheck 1 6 process:9:9 a.yes\n";
 
 const ANSWERS: &str =
-    "1 1 yes default:any\n1 2 no default:any\n2 1 yes root\n1 4 error NotAuthorized not-trusted\n1 5 error Failed unknown-action\n1 6 error Failed unknown-subject\n";
+    "1 1 yes default:any\n1 2 no default:any\n1 3 challenge default:any\n2 1 yes root\n1 4 error NotAuthorized not-trusted\n2 2 no default:any\n1 5 error Failed unknown-action\n1 6 error Failed unknown-subject\n";
 
-const ROWS: [Row; 22] = [
+const ROWS: [Row; 24] = [
     ("", "", "Done", 0),
     (CHECKS, ANSWERS, "Done", 0),
     ("action a.yes yes yes yes", "", "Done", 0),
@@ -19,10 +19,22 @@ const ROWS: [Row; 22] = [
     ("peer 1 1000\nchek 1 1\npeer 0 0\n", "", "BadLine 2 Word", 6),
     ("peer 0 0\n", "", "BadLine 1 Number", 6),
     ("peer 1\n", "", "BadLine 1 Count", 6),
-    ("action a auth_self no no\n", "", "BadLine 1 Value", 6),
+    ("action a auth_self_keep no no\n", "", "BadLine 1 Value", 6),
     ("process 5 5 7 s1\n", "", "BadLine 1 Value", 6),
     ("check 1 1 process:1:1 a ask\n", "", "BadLine 1 Value", 6),
-    ("at 5\n", "", "BadLine 1 Word", 6),
+    ("at 5\nat 05\n", "", "BadLine 2 Number", 6),
+    (
+        "at 9\nprocess 5 5 7 -\naction a auth_self yes yes\npeer 1 7\nat 3\ncheck 1 1 process:5:5 a\nat 4611686018427387904\ncheck 1 2 process:5:5 a\n",
+        "1 1 challenge default:any\n1 2 challenge default:any\n",
+        "Done",
+        0,
+    ),
+    (
+        "process 1 1 0 -\naction a auth_admin auth_admin auth_admin\npeer 1 0\ncheck 1 1 process:1:1 a\n",
+        "1 1 yes root\n",
+        "Done",
+        0,
+    ),
     ("# a comment\n\n#\n", "", "Done", 0),
     (
         "process 5 5 7 -\naction a no no no\naction a yes yes yes\npeer 1 7\ncheck 1 1 process:5:5 a\n",

@@ -8,6 +8,7 @@ use Rattle.line_reader.specs.Reading.{Takes}
 use Rattle.line_reader.specs.declared.reader.LineGot.TheVariants as line_got
 use Rattle.authority_model.specs.declared.journal.Item.{Item}
 use Rattle.authority_model.specs.Legal.{Legal}
+use Rattle.authority_laws.proofs.Tracing.{access}
 use Rattle.scenario_text.specs.declared.fault.LineKind.{LineKind}
 use Rattle.scenario_text.specs.declared.fault.LineKind.TheVariants as kind
 use Rattle.scenario_run.specs.Scene.{Scene, start, run_line}
@@ -100,6 +101,7 @@ at_none left held ended = record {
   gave = Gave-none left;
   got = Got-none held;
   legal = tt;
+  licensed = tt;
   run = (inr (λ more. (history_of more, sym (append-nil (history_of more)))), ([], refl));
 }
 
@@ -113,6 +115,7 @@ no_memory {l0 = l0} {l = l} {before = before} {pending = pending} {s = s} {n = n
   gave = Gave-more l0 l l' so.read got so.gave g;
   got = subst (λ (h : Option (List ℕ)). Got before h (text_of s.past)) (sym same) so.written;
   legal = so.legal;
+  licensed = access s.past so.legal;
   run = (inr (λ more. extends_at ((so.read ++ got) ++ more) (lines_of ((pending ++ got) ++ more)) n s (replayed_on so got more)), ([], sym (append-nil (text_of s.past))));
 }
 
@@ -130,6 +133,7 @@ cut_gives st {l0 = l0} {l = l} {before = before} {held = held} {s = s} {n = n} s
   gave = Gave-more l0 l l' so.read got so.gave g;
   got = Got-more before held held' (text_of s.past) cut.front.1.0 so.written cut.front.1.2;
   legal = cut.legal;
+  licensed = access cut.next.past cut.legal;
   run = is (so.read ++ got) cut.next.past (text_of s.past ++ cut.front.1.0) (
     whatever_map (Begins line n s) (IsBegun cut.next.past) ended (so.read ++ got)
         (λ bytes b. next_extends bytes line b.0 n s cut.next b.1 cut.ran) a,
@@ -148,6 +152,7 @@ stopped_gives (stopped.Fault k) {l0 = l0} {l = l} {before = before} {held = held
   gave = Gave-more l0 l l' so.read got so.gave g;
   got = subst (λ (h : Option (List ℕ)). Got before h (text_of s.past)) (sym done.1) so.written;
   legal = so.legal;
+  licensed = access s.past so.legal;
   run = (
     whatever_map (Begins line n s) (HasFault s.past n k) ended (so.read ++ got) (λ bytes b. has_fault bytes line b.0 n s k b.1 done.0) a,
     refl,
@@ -169,6 +174,7 @@ done_end {l0 = l0} {l = l} {s = s} {n = n} so ended l' got pending' line g t =
       gave = Gave-more l0 l l' so.read got so.gave g;
       got = so.written;
       legal = so.legal;
+      licensed = access s.past so.legal;
       run = (t.at_end, fault_at (so.read ++ got) _ ran, history_at (so.read ++ got) _ ran, refl);
     }
 
@@ -187,6 +193,7 @@ done_last {l0 = l0} {l = l} {before = before} {held = held} {s = s} {n = n} so e
       gave = Gave-more l0 l l' so.read got so.gave g;
       got = rw a.text (Got-more before held held' (text_of s.past) a.added so.written a.written);
       legal = a.legal;
+      licensed = access s'.past a.legal;
       run = (t.at_end, fault_at (so.read ++ got) _ ran, history_at (so.read ++ got) _ ran, refl);
     }
 
@@ -203,6 +210,7 @@ cut_off {l0 = l0} {l = l} {pending = pending} {s = s} so ended l' got pending' l
       gave = Gave-more l0 l l' so.read got so.gave g;
       got = so.written;
       legal = so.legal;
+      licensed = access s.past so.legal;
       run = (
         record {
           whole = joined so.lines;
@@ -229,6 +237,7 @@ too_long {l0 = l0} {l = l} {s = s} {n = n} so ended l' got pending' line g t = r
   gave = Gave-more l0 l l' so.read got so.gave g;
   got = so.written;
   legal = so.legal;
+  licensed = access s.past so.legal;
   run = (
     inr (λ more. too_long_at ((so.read ++ got) ++ more) line (pending' ++ more) s n
         (replayed_on so got more ∙ ap (λ b. run (lines_of b) n s) (ap (λ b. b ++ more) t.whole ∙ append_assoc line pending' more)) t.lacks (omega (arith, t.long))),

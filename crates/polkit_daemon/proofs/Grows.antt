@@ -13,7 +13,7 @@ use Rattle.scenario_text.specs.declared.step.Step.TheVariants as step
 use Rattle.scenario_text.specs.Faults.{◌>>=◌}
 use Rattle.scenario_text.specs.Lines.{step_of}
 use Rattle.scenario_run.specs.Draft.{put_in, same_action, same_process}
-use Rattle.scenario_run.specs.Scene.{Scene, begun, acted, is_built, plain_action, with_actions, with_processes, with_past, put_action, put_process, run_step, run_line}
+use Rattle.scenario_run.specs.Scene.{Scene, begun, acted, at_moment, plain_action, with_actions, with_processes, with_past, put_action, put_process, run_step, run_line}
 use Rattle.polkit_daemon.specs.Replay.{Ran, after_line, run, Extends}
 
 pub same_extends : (past : List Item) → Extends past past
@@ -41,18 +41,14 @@ put_keeps (Ok rows) with_rows s s' keeps e =
     scene_extends s (with_rows rows) s' (subst (λ (p : List Item). Extends p s.past) (sym (keeps rows)) (same_extends s.past)) (cc)
 put_keeps (Err k) with_rows s s' keeps e = absurd (cc)
 
-built_extends : (b : Bool) (s next s' : Scene) → Extends next.past s.past → (if b then Ok next else Err kind.Value) ≡ Ok s' → Extends s'.past s.past
-built_extends true s next s' g e = scene_extends s next s' g (cc)
-built_extends false s next s' g e = absurd (cc)
-
 step_extends : (s : Scene) (st : Step) (s' : Scene) → run_step s st ≡ Ok s' → Extends s'.past s.past
 step_extends s step.Blank s' e = scene_extends s s s' (same_extends s.past) (cc)
+step_extends s (step.At moment) s' e = scene_extends s (at_moment s moment) s' (same_extends s.past) (cc)
 step_extends s (step.Action id any inactive active) s' e =
     put_keeps (put_in same_action s.draft.policy.actions (plain_action id any inactive active)) (with_actions s) s s' (λ rows. refl) e
 step_extends s (step.Process process) s' e =
     put_keeps (put_in same_process s.draft.world.processes process) (with_processes s) s s' (λ rows. refl) e
-step_extends s (step.Act caller event) s' e =
-    built_extends (is_built event) s (with_past s (acted s caller event)) s' (acted_extends s caller event) e
+step_extends s (step.Act caller event) s' e = scene_extends s (with_past s (acted s caller event)) s' (acted_extends s caller event) (cc)
 step_extends s _ s' e = absurd (cc)
 
 bound_extends : (r : Result Step LineKind) (s s' : Scene) → (r >>= run_step s) ≡ Ok s' → Extends s'.past s.past

@@ -5,6 +5,7 @@ use Rattle.pk_outside.specs.Streams.{Gave, Got}
 use Rattle.byte_pieces.specs.Pieces.{Lacks, lines_of}
 use Rattle.authority_model.specs.declared.journal.Item.{Item}
 use Rattle.authority_model.specs.Legal.{Legal}
+use Rattle.authority_model.specs.Licensed.{AllLicensed}
 use Rattle.scenario_text.specs.declared.fault.LineKind.{LineKind}
 use Rattle.scenario_run.specs.Scene.{Scene, start, run_line}
 use Rattle.scenario_run.specs.Text.{text_of}
@@ -83,7 +84,7 @@ Replayed ended read past written status.WriteFault = Whatever ended (IsBegun pas
 Replayed ended read past written status.NoMemory = Whatever ended (IsBegun past) read × IsFront written (text_of past)
 Replayed ended read past written other = ⊥
 
--- The replay run: some bytes were read and some written, and a legal history, whose text was written as far as the status says, is that of the bytes read.
+-- The replay run: some bytes were read and some written, and a legal history, in which each yes is licensed and whose text was written as far as the status says, is that of the bytes read.
 pub record Replays (left_before left : Option (List ℕ)) (ended : Bool) (held_before held : Option (List ℕ)) (status : Status) : Type 0 where
   pub read : List ℕ
   pub written : List ℕ
@@ -91,4 +92,5 @@ pub record Replays (left_before left : Option (List ℕ)) (ended : Bool) (held_b
   pub gave : Gave left_before left read
   pub got : Got held_before held written
   pub legal : Legal past
+  pub licensed : AllLicensed past
   pub run : Replayed ended read past written status

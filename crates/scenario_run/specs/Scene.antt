@@ -1,10 +1,7 @@
 -- Where a scenario stands, and what a line makes of it.
-use Rattle.std.specs.Prelude.{ℕ, Bool, true, false, ◌&&◌, ◌==◌, ◌∷◌, List, [], length, Result, Ok, Err, if◌then◌else◌}
+use Rattle.std.specs.Prelude.{ℕ, ◌∷◌, List, [], Result, Ok, Err}
 use Rattle.pk_types.specs.declared.values.Implicit.{Implicit}
-use Rattle.authority_model.specs.declared.event.Call.{Call}
-use Rattle.authority_model.specs.declared.event.Call.TheVariants.{Check}
 use Rattle.authority_model.specs.declared.event.Event.{Event}
-use Rattle.authority_model.specs.declared.event.Event.TheVariants.{Connect, Call as Called}
 use Rattle.authority_model.specs.declared.journal.Item.{Item}
 use Rattle.authority_model.specs.declared.load.Loaded.{Loaded}
 use Rattle.authority_model.specs.declared.policy.Action.{Action}
@@ -61,6 +58,10 @@ with_processes scene processes = record scene { draft = record (scene.draft) { w
 abbrev pub with_past : Scene → List Item → Scene
 with_past scene past = record scene { past = past }
 
+-- the scene at another moment, for the events that follow
+abbrev pub at_moment : Scene → ℕ → Scene
+at_moment scene moment = record scene { moment = moment }
+
 -- an action is put into the draft
 abbrev pub put_action : Scene → Action → Result Scene LineKind
 put_action scene action = put_in same_action scene.draft.policy.actions action >>= (λ rows. Ok (with_actions scene rows))
@@ -73,23 +74,13 @@ put_process scene process = put_in same_process scene.draft.world.processes proc
 abbrev pub acted : Scene → ℕ → Event → List Item
 acted scene caller event = next (begun scene.draft scene.moment scene.past) (event_given caller scene.moment 0 event) ∷ begun scene.draft scene.moment scene.past
 
--- whether a call is a check without details, flags and cancellation id
-abbrev pub is_built_call : Call → Bool
-is_built_call (Check subject action details flags cancel) = (length details == 0) && (flags == 0) && (length cancel == 0)
-is_built_call other = false
-
--- whether an event is one that the authority takes so far
-abbrev pub is_built : Event → Bool
-is_built (Connect uid) = true
-is_built (Called serial quiet call) = is_built_call call
-is_built other = false
-
 -- what a step makes of a scene; what is not built is refused
 abbrev pub run_step : Scene → Step → Result Scene LineKind
 run_step scene step.Blank = Ok scene
+run_step scene (step.At moment) = Ok (at_moment scene moment)
 run_step scene (step.Action id any inactive active) = put_action scene (plain_action id any inactive active)
 run_step scene (step.Process process) = put_process scene process
-run_step scene (step.Act caller event) = if is_built event then Ok (with_past scene (acted scene caller event)) else Err kind.Value
+run_step scene (step.Act caller event) = Ok (with_past scene (acted scene caller event))
 run_step scene other = Err kind.Value
 
 -- what a line makes of a scene

@@ -1,15 +1,16 @@
 // A run of scenario lines: the draft, and the authority that is asked.
-ghost use Rattle.std.specs.Prelude.{◌≡◌, ◌≤◌, [], Ok, IsTrue, IfOk, OnOk, IfErr};
-ghost use Rattle.authority_model.specs.Built.{IsBuiltCall, IsBuiltEvent};
+ghost use Rattle.std.specs.Prelude.{◌≡◌, ◌≤◌, [], Ok, IfOk, OnOk, IfErr};
+ghost use Rattle.authority_model.specs.Built.{IsBuiltEvent};
 ghost use Rattle.authority_model.specs.Items.{items_of};
 ghost use Rattle.authority_model.specs.Legal.{IsLegal};
-ghost use Rattle.scenario_run.specs.Scene.{is_built, is_built_call, plain_action};
+ghost use Rattle.scenario_run.specs.Scene.{plain_action};
 ghost use Rattle.scenario_run.specs.Text.{loads_of};
+ghost use Rattle.scenario_text.specs.Built.{IsBuiltStep};
 ghost use Rattle.scenario_text.specs.Faults.{IsFaultOf};
 
 use crate::draft::put;
 use authority_core::{Authority, Limits};
-use authority_model::{Action, Call, Event, History, Loaded, Output, Process};
+use authority_model::{Action, Event, History, Loaded, Output, Process};
 use pk_types::{ActionId, Implicit, List, NoMemory, Text, TryCopy};
 use scenario_text::{LineFault, LineKind, Step, read_line};
 use std::alloc::Global;
@@ -44,34 +45,6 @@ impl Model for Stage {
     ghost view = { λ s. record { draft = s.draft; moment = s.moment; past = items_of s.authority } };
 
     ghost invariant = { λ s. IsPlainLoad s.draft × (s.moment ≤ 2 ^ 62) };
-}
-
-/// Whether an event is one that the authority takes so far.
-fn is_built(event: &Event) -> bool
-    ensures value { result ≡ is_built event.now }
-    ensures built { IsTrue result → IsBuiltEvent event.now }
-{
-    match event {
-        Event::Connect { .. } => true,
-        Event::Call { call, .. } => is_built_call(call),
-        _ => false,
-    }
-}
-
-/// Whether a call is one that the authority takes so far.
-fn is_built_call(call: &Call) -> bool
-    ensures value { result ≡ is_built_call call.now }
-    ensures built { IsTrue result → IsBuiltCall call.now }
-{
-    match call {
-        Call::Check {
-            details,
-            flags,
-            cancel,
-            ..
-        } => details.is_empty() && *flags == 0 && cancel.bytes().is_empty(),
-        _ => false,
-    }
 }
 
 /// The action of an action line: it has no texts and no annotations.
@@ -160,19 +133,6 @@ impl Stage {
         }
     }
 
-    /// Submits an event, if it is one that the authority takes so far.
-    fn take_event(&mut self, caller: u32, event: Event) -> Result<Taken, LineKind>
-        ensures ok { OnOk result (run_step self.old (Step.Act caller event) ≡ Ok self.new) }
-        ensures taken { IfOk result (λ taken. TakenIs taken self.old.past self.new.past) }
-        ensures err { IfErr result (λ kind. IsFaultOf kind (run_step self.old (Step.Act caller event))) }
-    {
-        if !is_built(&event) {
-            return Err(LineKind::Value);
-        }
-        self.act(caller, event)?;
-        Ok(Taken::Entry)
-    }
-
     /// Puts an action into the draft.
     fn put_action(&mut self, action: Action) -> Result<(), LineKind>
         requires { action.annotations ≡ [] }
@@ -192,12 +152,17 @@ impl Stage {
 
     /// Does what a step says.
     fn take_step(&mut self, alloc: Global, step: Step) -> Result<Taken, LineKind>
+        requires { IsBuiltStep step }
         ensures ok { OnOk result (run_step self.old step ≡ Ok self.new) }
         ensures taken { IfOk result (λ taken. TakenIs taken self.old.past self.new.past) }
         ensures err { IfErr result (λ kind. IsFaultOf kind (run_step self.old step)) }
     {
         match step {
             Step::Blank => Ok(Taken::Draft),
+            Step::At { t } => {
+                self.moment = t;
+                Ok(Taken::Draft)
+            }
             Step::Action {
                 id,
                 any,
@@ -211,7 +176,10 @@ impl Stage {
                 self.put_process(row)?;
                 Ok(Taken::Draft)
             }
-            Step::Act { caller, event } => self.take_event(caller, event),
+            Step::Act { caller, event } => {
+                self.act(caller, event)?;
+                Ok(Taken::Entry)
+            }
             _ => Err(LineKind::Value),
         }
     }

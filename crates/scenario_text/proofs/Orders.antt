@@ -154,6 +154,11 @@ subject_only word = parts_only (pieces_of 58 word)
 abbrev SameKind : FirstWord → List (List ℕ) → Type 0
 SameKind word args = fault_in (line_of word args) ≡ count_or_kind (faults_of word args)
 
+at_order : (args : List (List ℕ)) → SameKind first.At args
+at_order (moment ∷ []) = (number_first (number_in _ moment) _ (number_only _ moment) (λ t. no_fault _)).same
+at_order [] = refl
+at_order (a ∷ b ∷ more) = refl
+
 action_order : (args : List (List ℕ)) → SameKind first.Action args
 action_order (id ∷ any ∷ inactive ∷ active ∷ []) =
     let last = no_number (implicit_in active) (implicit_only active) no_words in
@@ -219,6 +224,7 @@ check_order (a ∷ b ∷ []) = refl
 check_order (a ∷ b ∷ c ∷ []) = refl
 
 line_order : (word : FirstWord) (args : List (List ℕ)) → SameKind word args
+line_order first.At args = at_order args
 line_order first.Action args = action_order args
 line_order first.Process args = process_order args
 line_order first.Peer args = peer_order args

@@ -16,11 +16,19 @@ use Rattle.scenario_text.specs.Words.{number_in, positive_in, implicit_in, text_
 -- the words that a line begins with
 abbrev pub first_word_of : List ℕ → Option FirstWord
 first_word_of word =
-    if bytes_eq word (codes "action") then Some first.Action
+    if bytes_eq word (codes "at") then Some first.At
+    else if bytes_eq word (codes "action") then Some first.Action
     else if bytes_eq word (codes "process") then Some first.Process
     else if bytes_eq word (codes "peer") then Some first.Peer
     else if bytes_eq word (codes "check") then Some first.Check
     else None
+
+-- at T, where T is a moment in seconds up to 2^62
+abbrev pub at_line : List (List ℕ) → Result Step LineKind
+at_line (moment ∷ []) = do
+  t ← number_in (2 ^ 62) moment
+  Ok (step.At t)
+at_line other = Err kind.Count
 
 -- action ID ANY INACTIVE ACTIVE
 abbrev pub action_line : List (List ℕ) → Result Step LineKind
@@ -67,6 +75,7 @@ check_line other = Err kind.Count
 
 -- a line by its first word and the words behind it
 abbrev pub line_of : FirstWord → List (List ℕ) → Result Step LineKind
+line_of first.At args = at_line args
 line_of first.Action args = action_line args
 line_of first.Process args = process_line args
 line_of first.Peer args = peer_line args

@@ -26,6 +26,7 @@ kind_of_faults faults = if list_any is_number faults then Some kind.Number else 
 
 -- the faults of the words behind the first one, unless their count is wrong
 abbrev pub faults_of : FirstWord → List (List ℕ) → Option (List (Option LineKind))
+faults_of first.At (moment ∷ []) = Some (fault_in (number_in (2 ^ 62) moment) ∷ [])
 faults_of first.Action (id ∷ any ∷ inactive ∷ active ∷ []) =
     Some (fault_in (id_in id) ∷ fault_in (implicit_in any) ∷ fault_in (implicit_in inactive) ∷ fault_in (implicit_in active) ∷ [])
 faults_of first.Process (pid ∷ start ∷ uid ∷ session ∷ []) =

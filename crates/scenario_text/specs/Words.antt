@@ -26,11 +26,12 @@ positive n = if n == 0 then Err kind.Number else Ok n
 abbrev pub positive_in : ℕ → List ℕ → Result ℕ LineKind
 positive_in greatest word = number_in greatest word >>= positive
 
--- a value without a challenge
+-- a value whose authorization is not kept
 abbrev pub built_implicit : Option Implicit → Result Implicit LineKind
-built_implicit (Some implicit.Yes) = Ok implicit.Yes
-built_implicit (Some implicit.No) = Ok implicit.No
-built_implicit other = Err kind.Value
+built_implicit None = Err kind.Value
+built_implicit (Some implicit.AuthSelfKeep) = Err kind.Value
+built_implicit (Some implicit.AuthAdminKeep) = Err kind.Value
+built_implicit (Some value) = Ok value
 
 -- an implicit value
 abbrev pub implicit_in : List ℕ → Result Implicit LineKind

@@ -5,6 +5,7 @@ ghost use Rattle.scenario_text.specs.Lines.{first_word_of};
 /// The first word of a line that is neither empty nor a comment.
 #[derive(Clone, Copy, Debug, PartialEq, Eq)]
 pub enum FirstWord {
+    At,
     Action,
     Process,
     Peer,
@@ -16,7 +17,9 @@ impl FirstWord {
     pub fn read(word: &[u8]) -> Option<FirstWord>
         ensures word { result ≡ first_word_of word.now }
     {
-        if word == b"action".as_slice() {
+        if word == b"at".as_slice() {
+            Some(FirstWord::At)
+        } else if word == b"action".as_slice() {
             Some(FirstWord::Action)
         } else if word == b"process".as_slice() {
             Some(FirstWord::Process)

@@ -2,7 +2,7 @@
 ghost use Rattle.std.specs.Prelude.{◌≡◌, ◌≤◌, [], ◌∷◌, map, IfOk, IfErr};
 ghost use Rattle.scenario_text.specs.Faults.{Gives, IsFaultOf, fault_in};
 ghost use Rattle.scenario_text.specs.Built.{IsBuiltStep};
-ghost use Rattle.scenario_text.specs.Lines.{action_line, process_line, peer_line, check_words, check_line, line_of, step_of};
+ghost use Rattle.scenario_text.specs.Lines.{at_line, action_line, process_line, peer_line, check_words, check_line, line_of, step_of};
 ghost use Rattle.scenario_text.specs.Order.{line_kind};
 
 use crate::fault::{LineFault, LineKind};
@@ -19,6 +19,9 @@ use std::alloc::Global;
 
 /// The greatest number of bytes of a line.
 pub const MAX_LINE: usize = 4096;
+
+/// The greatest moment, in seconds: 2^62.
+const MAX_MOMENT: u64 = 4611686018427387904;
 
 fn action_step(
     alloc: Global,
@@ -40,6 +43,20 @@ fn action_step(
         inactive,
         active,
     })
+}
+
+/// `at T`.
+fn at_words(args: &[&[u8]]) -> Result<Step, LineKind>
+    ensures value { Gives result (at_line (map (λ word. word.now) args.now)) }
+    ensures built { IfOk result IsBuiltStep }
+{
+    match args {
+        [moment] => {
+            let t = number_word(moment, MAX_MOMENT)?;
+            Ok(Step::At { t })
+        }
+        _ => Err(LineKind::Count),
+    }
 }
 
 /// `action ID ANY INACTIVE ACTIVE`.
@@ -157,6 +174,7 @@ fn words_step(alloc: Global, first: FirstWord, args: &[&[u8]]) -> Result<Step, L
     ensures built { IfOk result IsBuiltStep }
 {
     match first {
+        FirstWord::At => at_words(args),
         FirstWord::Action => action_words(alloc, args),
         FirstWord::Process => process_words(args),
         FirstWord::Peer => peer_words(args),

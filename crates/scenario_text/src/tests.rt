@@ -12,7 +12,7 @@ use std::test::Fail;
 /// A line: its front, a byte and how often it stands behind that, and its end; and what it says.
 type Row = (&'static str, u8, usize, &'static str, &'static str);
 
-const LINES: [Row; 73] = [
+const LINES: [Row; 80] = [
     ("", 0, 0, "", "blank"),
     ("#", 0, 0, "", "blank"),
     ("# check 1 1", 0, 0, "", "blank"),
@@ -31,7 +31,13 @@ const LINES: [Row; 73] = [
     ("chek 1 1", 0, 0, "", "7 Word"),
     (" peer 1 1000", 0, 0, "", "7 Word"),
     (" ", 0, 0, "", "7 Word"),
-    ("at 5", 0, 0, "", "7 Word"),
+    ("at 5", 0, 0, "", "at 5"),
+    ("at 0", 0, 0, "", "at 0"),
+    ("at 4611686018427387904", 0, 0, "", "at 4611686018427387904"),
+    ("at 4611686018427387905", 0, 0, "", "7 Number"),
+    ("at 05", 0, 0, "", "7 Number"),
+    ("at", 0, 0, "", "7 Count"),
+    ("at 5 5", 0, 0, "", "7 Count"),
     ("Peer 1 1000", 0, 0, "", "7 Word"),
     ("peer", b'\t', 1, "1 1000", "7 Word"),
     ("action", 0, 0, "", "7 Count"),
@@ -50,7 +56,14 @@ const LINES: [Row; 73] = [
     ("action a yes  yes", 0, 0, "", "7 Value"),
     ("action  yes yes yes", 0, 0, "", "7 Value"),
     ("action a/b yes yes yes", 0, 0, "", "7 Value"),
-    ("action a auth_self yes yes", 0, 0, "", "7 Value"),
+    (
+        "action a auth_self auth_admin yes",
+        0,
+        0,
+        "",
+        "action a AuthSelf AuthAdmin Yes",
+    ),
+    ("action a auth_self_keep yes yes", 0, 0, "", "7 Value"),
     ("action a yes auth_admin_keep yes", 0, 0, "", "7 Value"),
     ("action a yes yes maybe", 0, 0, "", "7 Value"),
     ("action a yes yes yes", b'\r', 1, "", "7 Value"),
@@ -184,6 +197,7 @@ fn shown(alloc: Global, line: &[u8]) -> Result<String, AllocError> {
     match read_line(alloc, line, 7) {
         Err(fault) => format!(in alloc; "{fault}"),
         Ok(Step::Blank) => String::from_str(alloc, "blank"),
+        Ok(Step::At { t }) => format!(in alloc; "at {t}"),
         Ok(
             Step::Action {
                 id,

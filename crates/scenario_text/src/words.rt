@@ -42,14 +42,13 @@ pub fn positive_word(word: &[u8], greatest: u32) -> Result<u32, LineKind>
     Ok(n as u32)
 }
 
-/// An implicit value, as far as these are built: `yes` and `no`.
+/// An implicit value, as far as these are built: one whose authorization is not kept.
 pub fn implicit_word(word: &[u8]) -> Result<Implicit, LineKind>
     ensures value { Gives result (implicit_in word.now) }
 {
     match Implicit::read(word) {
-        Some(Implicit::Yes) => Ok(Implicit::Yes),
-        Some(Implicit::No) => Ok(Implicit::No),
-        _ => Err(LineKind::Value),
+        Some(Implicit::AuthSelfKeep | Implicit::AuthAdminKeep) | None => Err(LineKind::Value),
+        Some(value) => Ok(value),
     }
 }
 

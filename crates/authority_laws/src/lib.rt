@@ -1,0 +1,22 @@
+//! Laws about the definitions of `authority_model`, each the clause of a function that does nothing.
+//!
+//! A law speaks of lists of items, the newest first, as the definitions see a history: each item is an
+//! entry of the journal with the load that it names. What stands behind an item is the history before it.
+#![tactic(auto)]
+
+mod costs;
+mod handed_in;
+mod licence;
+mod listed;
+mod looking_back;
+mod single;
+
+pub use costs::outputs_are_counted;
+pub use handed_in::one_history;
+pub use licence::every_yes_is_licensed;
+pub use listed::keys_are_listed;
+pub use looking_back::{
+    answers_found, challenges_found, connections_found, grants_counted, grants_found,
+    registrations_found,
+};
+pub use single::{one_challenge_found, one_grant_a_number, one_registration_a_key};
