@@ -1,0 +1,133 @@
+// Parts of bytes: trimmed, without an end, a line, a text.
+ghost use Rattle.std.specs.Prelude.{◌≡◌, ◌+◌, ◌<◌, ◌≤◌, ◌==◌, [], ◌∷◌, length, position, IfNone, IfOk, IfSome};
+ghost use Rattle.std.specs.Str.Lossy.{utf8_valid_len};
+ghost use Rattle.pk_types.specs.Text.{IsText, text_bad};
+ghost use Rattle.keyfile_text.specs.Bytes.{is_blank_of, trim_front, trim_back, trim, IsClean};
+ghost use Rattle.keyfile_text.specs.Lines.{raw_lines, without_end};
+
+use byte_pieces::cut;
+use pk_types::{NoMemory, Text, TextFault};
+use std::alloc::Global;
+use std::str;
+
+fn is_blank(b: u8) -> bool
+    ensures blank { result ≡ is_blank_of b }
+{
+    b == b' ' || b == b'\t' || b == b'\n'
+}
+
+fn trim_start(bytes: &[u8]) -> &[u8]
+    ensures trimmed { result.now ≡ trim_front bytes.now }
+    ensures clean { IsClean bytes.now → IsClean result.now }
+    ensures shorter { length result.now ≤ length bytes.now }
+{
+    let mut rest = bytes;
+    while let Some((first, behind)) = rest.split_first() {
+        if !is_blank(*first) {
+            return rest;
+        }
+        rest = behind;
+    }
+    rest
+}
+
+fn trim_end(bytes: &[u8]) -> &[u8]
+    ensures trimmed { result.now ≡ trim_back bytes.now }
+    ensures clean { IsClean bytes.now → IsClean result.now }
+    ensures shorter { length result.now ≤ length bytes.now }
+{
+    let mut rest = bytes;
+    while let Some((last, before)) = rest.split_last() {
+        if !is_blank(*last) {
+            return rest;
+        }
+        rest = before;
+    }
+    rest
+}
+
+/// The bytes without the spaces, tabs and LFs at both ends.
+#[tactic(auto, unfolding(crate::specs::Bytes::trim))]
+pub fn trimmed(bytes: &[u8]) -> &[u8]
+    ensures trimmed { result.now ≡ trim bytes.now }
+    ensures clean { IsClean bytes.now → IsClean result.now }
+    ensures shorter { length result.now ≤ length bytes.now }
+{
+    trim_end(trim_start(bytes))
+}
+
+/// A line without its LF and a CR before that.
+pub fn line_text(line: &[u8]) -> &[u8]
+    ensures text { result.now ≡ without_end line.now }
+    ensures clean { IsClean line.now → IsClean result.now }
+{
+    let Some((b'\n', text)) = line.split_last() else {
+        return line;
+    };
+    match text.split_last() {
+        Some((b'\r', before)) => before,
+        _ => text,
+    }
+}
+
+/// The first line with its end, and the bytes behind it.
+pub fn next_line(bytes: &[u8]) -> Option<(&[u8], &[u8])>
+    ensures end { IfNone result (bytes.now ≡ []) }
+    ensures line { IfSome result (λ x. raw_lines bytes.now ≡ x.0.now ∷ raw_lines x.1.now) }
+    ensures whole { IfSome result (λ x. length x.0.now + length x.1.now ≡ length bytes.now) }
+    ensures some { IfSome result (λ x. 0 < length x.0.now) }
+    ensures clean { IsClean bytes.now → IfSome result (λ x. IsClean x.0.now × IsClean x.1.now) }
+{
+    if bytes.is_empty() {
+        return None;
+    }
+    match cut(bytes, b'\n') {
+        Some((front, _)) => Some(bytes.split_at(front.len() + 1)),
+        None => Some(bytes.split_at(bytes.len())),
+    }
+}
+
+fn valid_len(bytes: &[u8]) -> usize
+    ensures value { result ≡ utf8_valid_len bytes.now }
+    ensures within { result ≤ length bytes.now }
+{
+    match str::from_utf8(bytes) {
+        Ok(_) => bytes.len(),
+        Err(e) => e.valid_up_to(),
+    }
+}
+
+fn zero_at(bytes: &[u8]) -> Option<usize>
+    ensures first { result ≡ position (λ b. b == 0) bytes.now }
+{
+    bytes.iter().position(|b| *b == 0)
+}
+
+/// Where the first byte stands that is 0 or that ends the bytes as UTF-8.
+pub fn bad_byte(bytes: &[u8]) -> Option<usize>
+    ensures first { result ≡ text_bad bytes.now }
+{
+    let valid = valid_len(bytes);
+    match zero_at(&bytes[..valid]) {
+        Some(at) => Some(at),
+        None => {
+            if valid < bytes.len() {
+                Some(valid)
+            } else {
+                None
+            }
+        }
+    }
+}
+
+/// A text of bytes that are one.
+pub fn text(alloc: Global, bytes: &[u8]) -> Result<Text, NoMemory>
+    requires { IsText bytes.now }
+    ensures text { IfOk result (λ text. text ≡ bytes.now) }
+{
+    match Text::try_from_bytes(alloc, bytes) {
+        Ok(text) => Ok(text),
+        Err(TextFault::NoMemory) => Err(NoMemory),
+        Err(_) => unreachable!(),
+    }
+}
