@@ -16,3 +16,4 @@ pub mod Whole
 pub mod HeaderFound
 pub mod WholeFound
 pub mod Streaming
+pub mod Writing
