@@ -17,3 +17,4 @@ pub mod HeaderFound
 pub mod WholeFound
 pub mod Streaming
 pub mod Writing
+pub mod Sending

@@ -92,7 +92,7 @@ tree_array of items =
     let row = row_of (Array of items) in
     ap (trees.Array of) (row_trees row.0 row.1 ∙ ap list_trees (items_hidden-the_row-Value-0 items.items))
 
-each_forms : (P : Tree → Type 0) → ((t : Tree) → P t → HasForm t) → (vs : List Value) → Each P (list_trees vs) → AllForm vs
+pub each_forms : (P : Tree → Type 0) → ((t : Tree) → P t → HasForm t) → (vs : List Value) → Each P (list_trees vs) → AllForm vs
 each_forms P form [] each = tt
 each_forms P form (v ∷ vs) each = (form (tree v) each.0, each_forms P form vs each.1)
 
@@ -148,7 +148,7 @@ next_short vs i v out total limit lt is so_far short =
 
 pub ruleset value_rules = (all_more)
 
-length-padded : (out : List ℕ) (n : ℕ) → length (out ++ padding n) ≡ length out + n
+pub length-padded : (out : List ℕ) (n : ℕ) → length (out ++ padding n) ≡ length out + n
 length-padded out n = omega (arith, length-append out (padding n), length-padding n)
 
 -- ---- structures

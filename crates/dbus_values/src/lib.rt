@@ -25,7 +25,7 @@ mod walk;
 mod wire_out;
 mod wire_message;
 mod write;
-mod write_message;
+mod posting;
 
 pub use fault::FaultKind;
 pub use message::{Next, next_message};
@@ -34,6 +34,7 @@ pub use parts::Parts;
 pub use value::{Value, ValueList};
 pub use wire_message::WireMessage;
 pub use wire_out::{HeaderOut, WireOut};
+pub use posting::write_message;
 
 #[cfg(test)]
 mod tests;
