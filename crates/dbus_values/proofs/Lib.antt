@@ -16,3 +16,5 @@ pub mod Whole
 pub mod HeaderFound
 pub mod WholeFound
 pub mod Streaming
+pub mod Writing
+pub mod Sending

@@ -12,3 +12,4 @@ pub mod Next
 pub mod Trees
 pub mod Form
 pub mod Streams
+pub mod Written
