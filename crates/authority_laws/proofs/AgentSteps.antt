@@ -15,6 +15,7 @@ use Rattle.authority_model.specs.Keys.{same_key}
 use Rattle.authority_model.specs.declared.pending.Agent.{Agent}
 use Rattle.authority_model.proofs.Cases.{both, then_some, when_some}
 use Rattle.authority_laws.proofs.OnlyOne.{unless, find_append, find_filter, one_filter, one_append}
+use Rattle.authority_laws.proofs.Standing.{not_some}
 
 -- keys that test as one are one
 pub same_key_is : (a b : Key) → same_key a b ≡ true → a ≡ b
@@ -32,10 +33,6 @@ same_key_is (Key.Session i u) (Key.Session i' u') e =
     cc
 same_key_is (Key.Process p s u) (Key.Session i' u') e = absurd (cc)
 same_key_is (Key.Session i u) (Key.Process p' s' u') e = absurd (cc)
-
-pub not_some : {A : Type 0} (o : Option A) → not (is_some o) ≡ true → o ≡ None
-not_some None e = refl
-not_some (Some x) e = absurd (cc)
 
 -- who registers had no registration of the key before
 pub registers_new : (past : List Item) (agents : List Agent) (i : Item) (a : Agent) → registers past agents i ≡ Some a → agent_of a.key agents ≡ None

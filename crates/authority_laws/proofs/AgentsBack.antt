@@ -25,44 +25,19 @@ use Rattle.authority_model.proofs.Cases.{both, map_some, then_some, when_some, a
 use Rattle.authority_laws.proofs.OnlyOne.{find_none, none_passes}
 use Rattle.authority_laws.proofs.AgentSteps.{same_key_is, registers_new}
 use Rattle.authority_laws.proofs.Calls.{call_is}
-
-pub not_true : (b : Bool) → not b ≡ true → b ≡ false
-not_true false e = refl
-not_true true e = absurd (cc)
-
-pub has_left : {A : Type 0} (xs ys : List A) (y : A) → Has xs y → Has (xs ++ ys) y
-has_left [] ys y h = absurd h
-has_left (x ∷ xs) ys y (inl same) = inl same
-has_left (x ∷ xs) ys y (inr h) = inr (has_left xs ys y h)
-
-pub has_right : {A : Type 0} (xs ys : List A) (y : A) → Has ys y → Has (xs ++ ys) y
-has_right [] ys y h = h
-has_right (x ∷ xs) ys y h = inr (has_right xs ys y h)
-
-pub filter_in : {A : Type 0} (test : A → Bool) (xs : List A) (y : A) → Has xs y → test y ≡ true → Has (filter test xs) y
-filter_in test [] y h t = absurd h
-filter_in {A} test (x ∷ xs) y h t = go (test x) refl h (λ h. filter_in test xs y h t)
-  where
-    go : (b : Bool) → test x ≡ b → Has (x ∷ xs) y → (Has xs y → Has (filter test xs) y) → Has (if b then (x ∷ filter test xs) else filter test xs) y
-    go true is (inl same) ih = inl same
-    go true is (inr h) ih = inr (ih h)
-    go false is (inl same) ih = absurd (cc (sym is ∙ ap test same ∙ t))
-    go false is (inr h) ih = ih h
-
-pub map_in : {A B : Type 0} (f : A → B) (xs : List A) (x : A) → Has xs x → Has (map f xs) (f x)
-map_in f [] x h = absurd h
-map_in f (y ∷ ys) x (inl same) = inl (ap f same)
-map_in f (y ∷ ys) x (inr h) = inr (map_in f ys x h)
+use Rattle.authority_laws.proofs.Standing.{not_true, has_left, has_right, filter_in}
 
 -- one more item, the oldest of the later ones
 pub none_snoc : (test : List Item → Item → Bool) (later : List Item) (r : Item) (before : List Item) → NoneOf test later (r ∷ before) → test before r ≡ false → NoneOf test (later ++ r ∷ []) before
 none_snoc test [] r before h e = (e, tt)
 none_snoc test (j ∷ later) r before h e = (ap (λ xs. test xs j) (append_assoc later (r ∷ []) before) ∙ h.0, none_snoc test later r before h.1 e)
 
+-- the same, taken apart again
 pub none_unsnoc : (test : List Item → Item → Bool) (later : List Item) (r : Item) (before : List Item) → NoneOf test (later ++ r ∷ []) before → NoneOf test later (r ∷ before) × (test before r ≡ false)
 none_unsnoc test [] r before h = (tt, h.0)
 none_unsnoc test (j ∷ later) r before h = let rest = none_unsnoc test later r before h.1 in ((sym (ap (λ xs. test xs j) (append_assoc later (r ∷ []) before)) ∙ h.0, rest.0), rest.1)
 
+-- a key is itself
 pub same_key_refl : (k : Key) → same_key k k ≡ true
 same_key_refl (Key.Process p s u) = rw ((Decides-eqb p p).1 refl) (rw ((Decides-eqb s s).1 refl) (rw ((Decides-eqb u u).1 refl) refl))
 same_key_refl (Key.Session i u) = rw ((bytes_eq-Decides i i).1 refl) (rw ((Decides-eqb u u).1 refl) refl)
@@ -80,6 +55,7 @@ facts_from past P process session subject f e = of subject e
     of (Subject.Session id) e = let row = map_some facts_of_session (session_row (world_of past) id) f e in subst P row.2 (session id row.0 row.1)
     of (Subject.BusName name) e = let p = then_some (λ (p : ℕ × ℕ). facts_of_pid past p.0 p.1) (option_and_then (announced past) (caller_named name)) f e in by_pid p.0.0 p.0.1 p.2
 
+-- the uid that is known of a subject is that in its key
 pub facts_uid : (past : List Item) (subject : Subject) (f : Facts) → facts past subject ≡ Some f → f.uid ≡ uid_of_key f.key
 facts_uid past = facts_from past (λ f. f.uid ≡ uid_of_key f.key) (λ pid start p e. refl) (λ id s e. refl)
 

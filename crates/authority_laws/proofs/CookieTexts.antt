@@ -29,6 +29,7 @@ same_front (x ∷ xs) (y ∷ ys) s t e n =
     let rest : xs ++ s ≡ ys ++ t = cc e in
     ap (λ z. z ∷ xs) head ∙ ap (λ zs. y ∷ zs) (same_front xs ys s t rest n)
 
+-- cookies of one text have one number
 pub same_serial : (a b : Cookie) → a.serial < 2 ^ 64 → b.serial < 2 ^ 64 → cookie_text a ≡ cookie_text b → a.serial ≡ b.serial
 same_serial a b m n e =
     let parts : decimal a.serial ++ (codes "-" ++ hex 32 a.salt) ≡ decimal b.serial ++ (codes "-" ++ hex 32 b.salt) = sym (append_assoc (decimal a.serial) (codes "-") (hex 32 a.salt)) ∙ e ∙ append_assoc (decimal b.serial) (codes "-") (hex 32 b.salt) in

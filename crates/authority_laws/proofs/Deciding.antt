@@ -51,6 +51,7 @@ abbrev pub ByValue : List Item → Facts → Bytes → RuleSource → Type 0
 ByValue past f a (RuleSource.Default category) = (f.category ≡ category) × ByDefault past f a
 ByValue past f a (RuleSource.Entry place) = ByEntry past f a place
 
+-- a yes by a value has its default or its rule
 pub by_value_yes : (past : List Item) (f : Facts) (a : Bytes) (v : Implicit × RuleSource) → implicit_for past f a ≡ Some v → is_yes v.0 ≡ true → ByValue past f a v.1
 by_value_yes past f a v is ok =
     let found = map_some (λ (x : Action). value_by f.category x (deciding (policy_of past) (world_of past) f.uid f.category a)) (action_of (policy_of past) a) v is in
@@ -107,6 +108,7 @@ Backed past f a t (Decision.Imply b) = Permits past f a t (Reason.Imply b)
 Backed past f a t (Decision.Challenge value source) = (implicit_for past f a ≡ Some (value, source)) × (is_auth value ≡ true)
 Backed past f a t (Decision.No source) = ⊤
 
+-- each decision rests on what it names
 pub decided_backed : (past : List Item) (f : Facts) (t : ℕ) (a : Bytes) (v : Implicit × RuleSource) → implicit_for past f a ≡ Some v → Backed past f a t (decided past (kept past) f t a v)
 decided_backed past f t a v is =
     by_test (Backed past f a t) (f.uid == 0) _ _ (λ root. (Decides-eqb f.uid 0).0 root) (λ _.

@@ -15,10 +15,10 @@ use Rattle.authority_model.specs.Grants.{kept, made, granted, ends_grant, revoke
 use Rattle.authority_model.specs.Legal.{Legal}
 use Rattle.authority_model.proofs.Cases.{append_has, filter_has}
 use Rattle.authority_laws.proofs.OnlyOne.{unless, find_append, find_filter, find_map, find_none, one_filter, one_append}
-use Rattle.authority_laws.proofs.AgentsBack.{not_true}
 use Rattle.authority_laws.proofs.GrantsBack.{granted_is}
 use Rattle.authority_laws.proofs.PendingBack.{pending_forth}
-use Rattle.authority_laws.proofs.ListedKeys.{listed_step, listed_beside, unloaded, neither, pending_listed}
+use Rattle.authority_laws.proofs.ListedKeys.{listed_step, listed_beside, unloaded, pending_listed}
+use Rattle.authority_laws.proofs.Standing.{not_true, neither}
 
 -- A search by a test that no answer changes: what was found before, with its answer, unless the item closes it; else the challenge that the item opens, if it passes.
 pub pending_step : (test : Pending → Bool) → ((past : List Item) (i : Item) (ch : Pending) → test (with_answer past i ch) ≡ test ch) → (past : List Item) → AtMostOne test (pending past) → (i : Item)

@@ -27,9 +27,10 @@ use Rattle.authority_model.specs.LookBack.{unanswered, NoneOf, IsAnswered, IsMad
 use Rattle.authority_model.proofs.Cases.{by_test, by_option, both, map_some, then_some, when_some, append_has, filter_has, find_has}
 use Rattle.authority_laws.proofs.OnlyOne.{find_only}
 use Rattle.authority_laws.proofs.AgentSteps.{same_key_is}
-use Rattle.authority_laws.proofs.AgentsBack.{not_true, has_left, has_right, filter_in, same_key_refl}
+use Rattle.authority_laws.proofs.AgentsBack.{same_key_refl}
 use Rattle.authority_laws.proofs.PendingBack.{pending_back, pending_forth, answered_back, answered_forth}
 use Rattle.authority_laws.proofs.OnePending.{one_serial}
+use Rattle.authority_laws.proofs.Standing.{not_true, has_left, has_right, filter_in}
 
 -- why a verdict on a return has a grant
 pub record Makes (past : List Item) (n t : ℕ) (ch : Pending) (m : ℕ) : Type 0 where
@@ -93,6 +94,7 @@ granted_is past legal i row e =
       sym n.2 ∙ ap (grant_row ch.0 i.entry.moment) (sym m.number),
     )
 
+-- what the sentence says makes the grant
 pub is_granted : (past : List Item) → Legal past → (i : Item) (o : Pending) (identity : Identity) → IsMade past i o identity → granted past i ≡ Some (grant_row o i.entry.moment (made past))
 is_granted past legal i o identity g =
     let p = pending_forth past legal o g.pending in
@@ -207,8 +209,10 @@ live_forth past legal g key action t l =
       refl,
     )
 
+-- a live grant is one that looking back finds, and back
 pub live_both : (past : List Item) → Legal past → (g : ℕ) (key : Key) (action : Bytes) (t : ℕ) → ((row : GrantRow) × Has (kept past) row × (serves key action t row ≡ true) × (row.id ≡ g) → IsLiveGrant past g key action t) × (IsLiveGrant past g key action t → (row : GrantRow) × Has (kept past) row × (serves key action t row ≡ true) × (row.id ≡ g))
 live_both past legal g key action t = ((λ r. subst (λ n. IsLiveGrant past n key action t) r.3 (live_back past legal r.0 key action t r.1 r.2)), live_forth past legal g key action t)
 
+-- the number of grants made is the one that looking back counts, and back
 pub made_both : (past : List Item) → Legal past → (n : ℕ) → (n ≡ made past → MadeCount past n) × (MadeCount past n → n ≡ made past)
 made_both past legal n = ((λ e. subst (MadeCount past) (sym e) (made_counts past legal)), counts_made past legal n)

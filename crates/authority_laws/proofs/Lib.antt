@@ -3,6 +3,7 @@ pub mod Returning
 pub mod Access
 pub mod Calls
 pub mod Tracing
+pub mod Standing
 pub mod OnlyOne
 pub mod AgentSteps
 pub mod AgentsBack

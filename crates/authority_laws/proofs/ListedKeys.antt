@@ -27,22 +27,10 @@ use Rattle.authority_model.specs.Challenges.{pending, opened, closes}
 use Rattle.authority_model.specs.Legal.{Legal, Follows, IsNumbered}
 use Rattle.authority_model.specs.Answers.{loads}
 use Rattle.authority_model.proofs.Cases.{append_has, filter_has, find_has}
-use Rattle.authority_laws.proofs.AgentsBack.{not_true, facts_from, registers_is}
+use Rattle.authority_laws.proofs.AgentsBack.{facts_from, registers_is}
 use Rattle.authority_laws.proofs.OpeningBack.{opens_is}
 use Rattle.authority_laws.proofs.OnePending.{each_pending}
-
-pub any_has : {A : Type 0} (test : A → Bool) (xs : List A) (x : A) → Has xs x → test x ≡ true → any_of test xs ≡ true
-any_has test [] x h t = absurd h
-any_has test (y ∷ ys) x (inl same) t = ap (λ b. b || any_of test ys) (ap test same ∙ t)
-any_has {A} test (y ∷ ys) x (inr h) t = of (test y) (any_has test ys x h t)
-  where
-    of : (b : Bool) → any_of test ys ≡ true → (b || any_of test ys) ≡ true
-    of true e = refl
-    of false e = e
-
-pub neither : (a b : Bool) → (a || b) ≡ false → (a ≡ false) × (b ≡ false)
-neither false b e = (refl, e)
-neither true b e = absurd (cc)
+use Rattle.authority_laws.proofs.Standing.{not_true, any_has, neither}
 
 -- a subject's key is listed
 pub lists_facts : (past : List Item) (subject : Subject) (f : Facts) → facts past subject ≡ Some f → lists_key (world_of past) f.key ≡ true
@@ -86,6 +74,7 @@ unloaded past i follows e is out = of e i.loaded (subst (λ (e : Event). IsNumbe
     of Stop o h out = h
     of (Collect other) o h out = h
 
+-- a key stays listed where nothing is loaded
 pub listed_beside : (past : List Item) (i : Item) (key : Key) → i.loaded ≡ None → lists_key (world_of past) key ≡ true → lists_key (world_of (i ∷ past)) key ≡ true
 listed_beside past i key none h = ap (λ o. lists_key (option_map_or (λ l. l) o (loaded_of past)).world key) none ∙ h
 

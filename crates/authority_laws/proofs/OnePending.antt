@@ -3,7 +3,7 @@ use Rattle.std.proofs.Common.{◌≡◌, ℕ, ◌==◌, ◌+◌, ◌^◌, ◌<�
 use Rattle.std.proofs.lemmas.Bool.Decides.{Decides-eqb}
 use Rattle.std.proofs.lemmas.Slice.Eq.{bytes_eq-Decides}
 use Rattle.std.proofs.lemmas.List.{append-nil}
-use Rattle.std.specs.Prelude.{if◌then◌else◌, filter, find, map, option_to_list, bytes_eq}
+use Rattle.std.specs.Prelude.{⊤, if◌then◌else◌, filter, find, map, option_to_list, bytes_eq}
 use Rattle.pk_types.specs.Decimals.{is_empty}
 use Rattle.authority_model.specs.declared.verdict.Cookie.{Cookie}
 use Rattle.authority_model.specs.declared.journal.Item.{Item}
@@ -18,9 +18,8 @@ use Rattle.authority_model.specs.Answers.{begin_to}
 use Rattle.authority_model.specs.Legal.{Legal, Follows}
 use Rattle.authority_model.proofs.Cases.{both, filter_has, map_has, append_has}
 use Rattle.authority_laws.proofs.OnlyOne.{one_filter, one_append, one_map, find_none, none_passes}
-use Rattle.authority_laws.proofs.AgentSteps.{not_some}
-use Rattle.authority_laws.proofs.AgentsBack.{not_true}
 use Rattle.authority_laws.proofs.Opening.{opening, asked}
+use Rattle.authority_laws.proofs.Standing.{not_some, not_true}
 
 -- what holds of a challenge when it is opened, and stays, holds of all that are pending
 pub each_pending : (P : List Item → Pending → Type 0)
@@ -42,37 +41,34 @@ each_pending P opens stays (i ∷ past) legal ch h = of (each_pending P opens st
         subst (P (i ∷ past)) old.2 (stays past i old.0 legal (ih old.0 there.0) (not_true (closes past old.0 i) there.1))
     of ih (inr h) = new (opened past i) refl h
 
--- where none that is pending passes a test with a new one, at most one passes
+-- Where none that is pending passes a test with a new one, at most one passes. This may rest on what holds of a history whose longer ones it holds of.
+one_pending_where : (Q : List Item → Type 0) → ((past : List Item) (i : Item) → Q (i ∷ past) → Q past)
+    → (test : Pending → Bool) → ((past : List Item) (i : Item) (ch : Pending) → test (with_answer past i ch) ≡ test ch)
+    → ((past : List Item) (i : Item) (ch : Pending) → Legal (i ∷ past) → Q past → opened past i ≡ Some ch → test ch ≡ true → (c : Pending) → Has (pending past) c → test c ≡ false)
+    → (past : List Item) → Legal past → Q past → AtMostOne test (pending past)
+one_pending_where Q back test same fresh [] legal q = tt
+one_pending_where Q back test same fresh (i ∷ past) legal q = of (opened past i) refl (one_map test (with_answer past i) (same past i) (filter (λ c. not (closes past c i)) (pending past)) (one_filter test (λ c. closes past c i) (pending past) (one_pending_where Q back test same fresh past legal.1 (back past i q))))
+  where
+    none : (ch : Pending) → opened past i ≡ Some ch → test ch ≡ true → (c : Pending) → Has (map (with_answer past i) (filter (λ c. not (closes past c i)) (pending past))) c → test c ≡ false
+    none ch e t c h =
+        let from = map_has (with_answer past i) (filter (λ c. not (closes past c i)) (pending past)) c h in
+        ap test (sym from.2) ∙ same past i from.0 ∙ fresh past i ch legal (back past i q) e t from.0 (filter_has (λ c. not (closes past c i)) (pending past) from.0 from.1).0
+
+    of : (o : Option Pending) → opened past i ≡ o → AtMostOne test (map (with_answer past i) (filter (λ c. not (closes past c i)) (pending past))) → AtMostOne test (map (with_answer past i) (filter (λ c. not (closes past c i)) (pending past)) ++ option_to_list o)
+    of None e old = subst (AtMostOne test) (sym (append-nil (map (with_answer past i) (filter (λ c. not (closes past c i)) (pending past))))) old
+    of (Some ch) e old = one_append test (map (with_answer past i) (filter (λ c. not (closes past c i)) (pending past))) ch old (λ t. find_none test (map (with_answer past i) (filter (λ c. not (closes past c i)) (pending past))) (none ch e t))
+
+-- the same of all legal histories
 pub one_pending : (test : Pending → Bool) → ((past : List Item) (i : Item) (ch : Pending) → test (with_answer past i ch) ≡ test ch)
     → ((past : List Item) (i : Item) (ch : Pending) → Legal (i ∷ past) → opened past i ≡ Some ch → test ch ≡ true → (c : Pending) → Has (pending past) c → test c ≡ false)
     → (past : List Item) → Legal past → AtMostOne test (pending past)
-one_pending test same fresh [] legal = tt
-one_pending test same fresh (i ∷ past) legal = of (opened past i) refl (one_map test (with_answer past i) (same past i) (filter (λ c. not (closes past c i)) (pending past)) (one_filter test (λ c. closes past c i) (pending past) (one_pending test same fresh past legal.1)))
-  where
-    none : (ch : Pending) → opened past i ≡ Some ch → test ch ≡ true → (c : Pending) → Has (map (with_answer past i) (filter (λ c. not (closes past c i)) (pending past))) c → test c ≡ false
-    none ch e t c h =
-        let from = map_has (with_answer past i) (filter (λ c. not (closes past c i)) (pending past)) c h in
-        ap test (sym from.2) ∙ same past i from.0 ∙ fresh past i ch legal e t from.0 (filter_has (λ c. not (closes past c i)) (pending past) from.0 from.1).0
+one_pending test same fresh past legal = one_pending_where (λ past. ⊤) (λ past i q. tt) test same (λ past i ch legal q. fresh past i ch legal) past legal tt
 
-    of : (o : Option Pending) → opened past i ≡ o → AtMostOne test (map (with_answer past i) (filter (λ c. not (closes past c i)) (pending past))) → AtMostOne test (map (with_answer past i) (filter (λ c. not (closes past c i)) (pending past)) ++ option_to_list o)
-    of None e old = subst (AtMostOne test) (sym (append-nil (map (with_answer past i) (filter (λ c. not (closes past c i)) (pending past))))) old
-    of (Some ch) e old = one_append test (map (with_answer past i) (filter (λ c. not (closes past c i)) (pending past))) ch old (λ t. find_none test (map (with_answer past i) (filter (λ c. not (closes past c i)) (pending past))) (none ch e t))
-
--- in a history that isn't too long, where none that is pending passes a test with a new one, at most one passes
+-- the same of those that are not too long
 pub one_pending_short : (test : Pending → Bool) → ((past : List Item) (i : Item) (ch : Pending) → test (with_answer past i ch) ≡ test ch)
     → ((past : List Item) (i : Item) (ch : Pending) → Legal (i ∷ past) → length past < 2 ^ 63 → opened past i ≡ Some ch → test ch ≡ true → (c : Pending) → Has (pending past) c → test c ≡ false)
     → (past : List Item) → Legal past → length past < 2 ^ 63 → AtMostOne test (pending past)
-one_pending_short test same fresh [] legal short = tt
-one_pending_short test same fresh (i ∷ past) legal short = of (opened past i) refl (one_map test (with_answer past i) (same past i) (filter (λ c. not (closes past c i)) (pending past)) (one_filter test (λ c. closes past c i) (pending past) (one_pending_short test same fresh past legal.1 (omega arith))))
-  where
-    none : (ch : Pending) → opened past i ≡ Some ch → test ch ≡ true → (c : Pending) → Has (map (with_answer past i) (filter (λ c. not (closes past c i)) (pending past))) c → test c ≡ false
-    none ch e t c h =
-        let from = map_has (with_answer past i) (filter (λ c. not (closes past c i)) (pending past)) c h in
-        ap test (sym from.2) ∙ same past i from.0 ∙ fresh past i ch legal (omega arith) e t from.0 (filter_has (λ c. not (closes past c i)) (pending past) from.0 from.1).0
-
-    of : (o : Option Pending) → opened past i ≡ o → AtMostOne test (map (with_answer past i) (filter (λ c. not (closes past c i)) (pending past))) → AtMostOne test (map (with_answer past i) (filter (λ c. not (closes past c i)) (pending past)) ++ option_to_list o)
-    of None e old = subst (AtMostOne test) (sym (append-nil (map (with_answer past i) (filter (λ c. not (closes past c i)) (pending past))))) old
-    of (Some ch) e old = one_append test (map (with_answer past i) (filter (λ c. not (closes past c i)) (pending past))) ch old (λ t. find_none test (map (with_answer past i) (filter (λ c. not (closes past c i)) (pending past))) (none ch e t))
+one_pending_short test same fresh past legal short = one_pending_where (λ past. length past < 2 ^ 63) (λ past i q. omega arith) test same fresh past legal short
 
 self_count : (c : ℕ) (m : Message) → count_to c (record { to = c; message = m } ∷ []) ≡ 1
 self_count c m = ap (λ b. (if b then 1 else 0) + 0) ((Decides-eqb c c).1 refl)

@@ -8,6 +8,7 @@ abbrev pub unless : {A : Type 0} → (A → Bool) → Option A → Option A
 unless test None = None
 unless test (Some a) = if test a then None else Some a
 
+-- a search through two lists
 pub find_append : {A : Type 0} (test : A → Bool) (xs ys : List A) → find test (xs ++ ys) ≡ or_else (find test xs) (find test ys)
 find_append test [] ys = refl
 find_append {A} test (x ∷ xs) ys = go (test x) (find_append test xs ys)
@@ -27,6 +28,7 @@ find_filter {A} test out (x ∷ xs) one = go (test x) (out x) refl refl (find_fi
     go false true t o ih = ih
     go false false t o ih = ap (λ b. if b then Some x else find test (filter (λ x. not (out x)) xs)) t ∙ ih
 
+-- a filter leaves at most one
 pub one_filter : {A : Type 0} (test out : A → Bool) (xs : List A) → AtMostOne test xs → AtMostOne test (filter (λ x. not (out x)) xs)
 one_filter test out [] one = tt
 one_filter {A} test out (x ∷ xs) one = go (out x) (find_filter test out xs one.1) (one_filter test out xs one.1)
@@ -35,6 +37,7 @@ one_filter {A} test out (x ∷ xs) one = go (out x) (find_filter test out xs one
     go true f ih = ih
     go false f ih = (λ t. f ∙ ap (unless out) (one.0 t), ih)
 
+-- one more element, where no other passes with it
 pub one_append : {A : Type 0} (test : A → Bool) (xs : List A) (y : A) → AtMostOne test xs → (test y ≡ true → find test xs ≡ None) → AtMostOne test (xs ++ y ∷ [])
 one_append test [] y one h = (λ t. refl, tt)
 one_append {A} test (x ∷ xs) y one h = (λ t. find_append test xs (y ∷ []) ∙ first t (test y) refl, one_append test xs y one.1 (λ t. rest (test x) refl (h t)))
@@ -72,6 +75,7 @@ find_only {A} test (y ∷ ys) one x h t = go (test y) refl h (λ h. find_only te
     go false is (inl same) ih = let none : test x ≡ false = ap test (sym same) ∙ is in absurd (cc)
     go false is (inr h) ih = ih h
 
+-- a search through a mapped list, by a test that the map does not change
 pub find_map : {A : Type 0} (test : A → Bool) (f : A → A) → ((x : A) → test (f x) ≡ test x) → (xs : List A) → find test (map f xs) ≡ option_map f (find test xs)
 find_map test f h [] = refl
 find_map {A} test f h (x ∷ xs) = ap (λ b. if b then Some (f x) else find test (map f xs)) (h x) ∙ go (test x) (find_map test f h xs)

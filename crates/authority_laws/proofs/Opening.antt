@@ -41,6 +41,7 @@ pub record Opening (past : List Item) (i : Item) (ch : Pending) : Type 0 where
   pub uid_is : uid_of past i.entry.caller ≡ Some uid
   pub whole : challenge_of past i q b f v a uid ≡ ch
 
+-- an item that opens a challenge has them
 pub opening : (past : List Item) (i : Item) (ch : Pending) → opened past i ≡ Some ch → Opening past i ch
 opening past i ch e =
     let q = then_some (opened_at past i) (question_in i.entry.event) ch e in
@@ -59,6 +60,7 @@ pub record Asked (past : List Item) (i : Item) (o : Question) (f : Facts) (v : I
   pub fresh : is_some (with_id past i.entry.caller o.cancel) ≡ false
   pub outputs : i.entry.outputs ≡ ask past i.entry.salt f a action v.0 details
 
+-- an item that opens a challenge in a legal history asks for it
 pub asked : (past : List Item) (i : Item) (ch : Pending) → Follows past i → (o : Opening past i ch) → Asked past i o.q o.f o.v o.a
 asked past i ch follows o =
     let asks = outputs_ask past i follows o.q o.b o.details o.flags o.event o.begins in

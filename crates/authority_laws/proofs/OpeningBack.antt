@@ -1,4 +1,4 @@
--- An item opens a challenge as D9's sentence says it.
+-- An item opens a challenge where the sentence of looking back says so.
 use Rattle.std.proofs.Common.{◌≡◌, ℕ, ◌+◌, List, [], ◌∷◌, refl, ap, sym, ◌∙◌, inl, inr, Option, Some, None, subst}
 use Rattle.std.specs.Prelude.{option_map, option_and_then}
 use Rattle.pk_types.specs.declared.values.Identity.{Identity}
@@ -17,6 +17,7 @@ use Rattle.authority_model.specs.LookBack.{Opens}
 use Rattle.authority_laws.proofs.Tracing.{outputs_ask}
 use Rattle.authority_laws.proofs.Opening.{opening, asked}
 
+-- what opens a challenge does so as the sentence says
 pub opens_is : (past : List Item) (i : Item) (o : Pending) → Follows past i → opened past i ≡ Some o → Opens past i o
 opens_is past i o follows e =
     let p = opening past i o e in
@@ -60,6 +61,7 @@ only_one : (c n k : ℕ) (o p : Output) → NthTo c n k o (p ∷ []) → (p ≡ 
 only_one c n k o p (inl h) = (h.0, h.2)
 only_one c n k o p (inr h) = absurd h
 
+-- what the sentence says opens a challenge
 pub is_opened : (past : List Item) (i : Item) (o : Pending) → Follows past i → Opens past i o → opened past i ≡ Some o
 is_opened past i o follows g =
     let q : Question = record { serial = o.serial; quiet = o.quiet; subject = g.subject; action = o.action; cancel = o.cancel } in

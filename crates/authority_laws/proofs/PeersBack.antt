@@ -28,6 +28,7 @@ is_never : (past : List Item) (c : ℕ) → NeverConnects past c → uid_of past
 is_never [] c h = refl
 is_never (i ∷ past) c h = ap (λ o. or_else o (connects c i)) (is_never past c h.1) ∙ h.0
 
+-- the uid is that of the first Connect
 pub uid_back : (past : List Item) (c uid : ℕ) → uid_of past c ≡ Some uid → IsUid past c uid
 uid_back [] c uid e = absurd (cc)
 uid_back (i ∷ past) c uid e = of (uid_of past c) refl e (uid_back past c uid)
@@ -43,6 +44,7 @@ uid_stays (j ∷ later) i before c uid e never = ap (λ o. or_else o (connects c
 pub uid_forth : (past : List Item) (c uid : ℕ) → IsUid past c uid → uid_of past c ≡ Some uid
 uid_forth past c uid u = ap (λ xs. uid_of xs c) u.parts ∙ uid_stays u.later u.i u.before c uid u.connects u.first
 
+-- who is live connected, and did not depart since
 pub live_back : (past : List Item) (c : ℕ) → live past c ≡ true → IsLive past c
 live_back [] c e = absurd (cc)
 live_back (i ∷ past) c e = of (live past c) refl (departs c i) refl (uid_of past c) refl (connects c i) refl (sym (live_step past i c) ∙ e) (live_back past c)
@@ -105,6 +107,7 @@ is_announces past i c pid start g =
     ∙ ap (λ o. when (option_map_or (λ p. may_for past c p.uid) o false) (pid, start)) g.listed
     ∙ ap (λ b. when b (pid, start)) g.may
 
+-- the last item that announces names this process
 pub record LastNames (past : List Item) (c pid start : ℕ) : Type 0 where
   pub later : List Item
   pub i : Item
@@ -132,6 +135,7 @@ last_stays (j ∷ later) i before c pid start a none = of (announces (later ++ i
     of None is ih = ih
     of (Some p) is ih = absurd (none.0 p.0 p.1 (announces_is (later ++ i ∷ before) j c p.0 p.1 is))
 
+-- the announced process is the last one
 pub announced_back : (past : List Item) (c pid start : ℕ) → announced past c ≡ Some (pid, start) → IsAnnounced past c pid start
 announced_back past c pid start e = of (live past c) refl e
   where

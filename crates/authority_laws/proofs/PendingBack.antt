@@ -16,9 +16,9 @@ use Rattle.authority_model.specs.Licensed.{Answers, NoneAnswers, FirstAnswers}
 use Rattle.authority_model.specs.LookBack.{unanswered, NoneOf, Opens, IsPending, IsAnswered}
 use Rattle.authority_model.proofs.Cases.{map_has}
 use Rattle.authority_laws.proofs.Tracing.{FirstIs, answer_is, answer_found}
-use Rattle.authority_laws.proofs.AgentsBack.{has_left, has_right, filter_in, map_in}
 use Rattle.authority_laws.proofs.OpeningBack.{opens_is, is_opened}
 use Rattle.authority_laws.proofs.OnePending.{each_pending}
+use Rattle.authority_laws.proofs.Standing.{has_left, has_right, filter_in, map_in}
 
 -- where a pending challenge was opened, and what happened since
 pub record Stood (past : List Item) (ch : Pending) : Type 0 where
@@ -30,6 +30,7 @@ pub record Stood (past : List Item) (ch : Pending) : Type 0 where
   pub stands : NoneOf (λ past j. closes past ch j) later (i ∷ before)
   pub first : FirstIs later (i ∷ before) ch.cookie ch.identities ch.answered
 
+-- each pending challenge stood since it was opened
 pub all_stood : (past : List Item) → Legal past → (ch : Pending) → Has (pending past) ch → Stood past ch
 all_stood = each_pending Stood opens stays
   where
@@ -67,6 +68,7 @@ stands_pending (j ∷ later) i before o legal opens none =
     let open' : closes past ih.0 j ≡ false = ap (λ c. closes past c j) ih.2 ∙ none.0 in
     (with_answer past j ih.0, has_left (map (with_answer past j) (filter (λ c. not (closes past c j)) (pending past))) (option_to_list (opened past j)) (with_answer past j ih.0) (map_in (with_answer past j) (filter (λ c. not (closes past c j)) (pending past)) ih.0 (filter_in (λ c. not (closes past c j)) (pending past) ih.0 ih.1 (ap not open'))), ih.2)
 
+-- what looking back finds is pending
 pub pending_forth : (past : List Item) → Legal past → (o : Pending) → IsPending past o → (ch : Pending) × Has (pending past) ch × (unanswered ch ≡ o)
 pending_forth past legal o p =
     let r = stands_pending p.later p.i p.before o (subst Legal p.parts legal) p.opens p.stands in
@@ -142,6 +144,7 @@ answered_back past legal ch h id is =
       stands = none_oldest (λ past j. closes past ch j) f.after f.j f.between (t.i ∷ t.before) (subst (λ xs. NoneOf (λ past j. closes past ch j) xs (t.i ∷ t.before)) f.parts t.stands);
     }
 
+-- what looking back finds is the answer
 pub answered_forth : (past : List Item) → Legal past → (ch : Pending) → Has (pending past) ch → (id : Identity) → IsAnswered past (unanswered ch) id → ch.answered ≡ Some id
 answered_forth past legal ch h id a = of ch.answered first
   where
@@ -161,6 +164,7 @@ answered_forth past legal ch h id a = of ch.answered first
     of None none = absurd (no_answer_at a.after a.j a.between (a.i ∷ a.before) ch.cookie ch.identities id none a.answers)
     of (Some x) f = ap Some (first_unique a.after a.j a.between (a.i ∷ a.before) ch.cookie ch.identities x id f a.none a.answers)
 
+-- a pending challenge is one that looking back finds, and back
 pub pending_both : (past : List Item) → Legal past → (o : Pending) → (Has (map unanswered (pending past)) o → IsPending past o) × (IsPending past o → Has (map unanswered (pending past)) o)
 pending_both past legal o = (
   (λ h. let from = map_has unanswered (pending past) o h in subst (IsPending past) from.2 (pending_back past legal from.0 from.1)),

@@ -199,6 +199,7 @@ responds_is (Some (Call.Respond cookie' identity)) cookie ids id e =
     (ap (λ c. Some (Call.Respond c identity)) (sym same) ∙ ap (λ x. Some (Call.Respond cookie x)) passes.1, ap (λ x. any_of (same_identity x) ids) (sym passes.1) ∙ parts.1)
 responds_is (Some _) cookie ids id e = absurd (cc)
 
+-- an answer to a challenge is a Respond as it should be
 pub answer_is : (past : List Item) (i : Item) (ch : Pending) (id : Identity) → answer_to past ch i ≡ Some id → Answers past i ch.cookie ch.identities id
 answer_is past i ch id e = of (live past i.entry.caller && is_root past i.entry.caller) refl e
   where
