@@ -18,4 +18,5 @@ pub mod CookieTexts
 pub mod ListedKeys
 pub mod GrantNumbers
 pub mod OneHistory
+pub mod OneJournal
 pub mod CountedBytes
