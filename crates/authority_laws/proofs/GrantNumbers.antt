@@ -1,4 +1,4 @@
--- Searches among pending challenges and grants after one more item.
+-- The numbers of grants, and their keys.
 use Rattle.std.proofs.Common.{◌≡◌, ℕ, ◌==◌, ◌+◌, ◌<◌, Bool, true, false, not, List, [], ◌∷◌, ◌++◌, refl, ap, sym, ◌∙◌, inl, inr, ◌⊎◌, Option, Some, None, subst, length, arith}
 use Rattle.std.proofs.lemmas.Bool.Decides.{Decides-eqb}
 use Rattle.std.proofs.lemmas.List.{append-nil}
@@ -20,14 +20,7 @@ use Rattle.authority_laws.proofs.PendingBack.{pending_forth}
 use Rattle.authority_laws.proofs.ListedKeys.{listed_step, listed_beside, unloaded, pending_listed}
 use Rattle.authority_laws.proofs.Standing.{not_true, neither}
 
--- A search by a test that no answer changes: what was found before, with its answer, unless the item closes it; else the challenge that the item opens, if it passes.
-pub pending_step : (test : Pending → Bool) → ((past : List Item) (i : Item) (ch : Pending) → test (with_answer past i ch) ≡ test ch) → (past : List Item) → AtMostOne test (pending past) → (i : Item)
-    → find test (pending (i ∷ past)) ≡ or_else (option_map (with_answer past i) (unless (λ ch. closes past ch i) (find test (pending past)))) (find test (option_to_list (opened past i)))
-pending_step test same past one i =
-    find_append test (map (with_answer past i) (filter (λ ch. not (closes past ch i)) (pending past))) (option_to_list (opened past i))
-    ∙ ap (λ o. or_else o (find test (option_to_list (opened past i)))) (find_map test (with_answer past i) (same past i) (filter (λ ch. not (closes past ch i)) (pending past)) ∙ ap (option_map (with_answer past i)) (find_filter test (λ ch. closes past ch i) (pending past) one))
-
--- the item of a grant's number
+-- a new grant has the next number
 number_of_new : (past : List Item) → Legal past → (i : Item) (row : GrantRow) → granted past i ≡ Some row → row.id ≡ made past
 number_of_new past legal i row e = let m = granted_is past legal i row e in ap (λ (r : GrantRow). r.id) m.3
 

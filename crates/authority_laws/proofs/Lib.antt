@@ -2,7 +2,8 @@ pub mod Deciding
 pub mod Returning
 pub mod Access
 pub mod Calls
-pub mod Tracing
+pub mod Asking
+pub mod Answering
 pub mod Standing
 pub mod OnlyOne
 pub mod AgentSteps
@@ -20,3 +21,4 @@ pub mod GrantNumbers
 pub mod OneHistory
 pub mod OneJournal
 pub mod CountedBytes
+pub mod Tracing

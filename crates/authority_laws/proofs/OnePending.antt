@@ -3,13 +3,13 @@ use Rattle.std.proofs.Common.{◌≡◌, ℕ, ◌==◌, ◌+◌, ◌^◌, ◌<�
 use Rattle.std.proofs.lemmas.Bool.Decides.{Decides-eqb}
 use Rattle.std.proofs.lemmas.Slice.Eq.{bytes_eq-Decides}
 use Rattle.std.proofs.lemmas.List.{append-nil}
-use Rattle.std.specs.Prelude.{⊤, if◌then◌else◌, filter, find, map, option_to_list, bytes_eq}
+use Rattle.std.specs.Prelude.{⊤, if◌then◌else◌, filter, find, map, option_map, option_to_list, bytes_eq}
 use Rattle.pk_types.specs.Decimals.{is_empty}
 use Rattle.authority_model.specs.declared.verdict.Cookie.{Cookie}
 use Rattle.authority_model.specs.declared.journal.Item.{Item}
 use Rattle.authority_model.specs.declared.pending.Pending.{Pending}
 use Rattle.authority_model.specs.Words.{Bytes}
-use Rattle.authority_model.specs.Lists.{Has, AtMostOne}
+use Rattle.authority_model.specs.Lists.{Has, AtMostOne, or_else}
 use Rattle.authority_model.specs.declared.message.Message.{Message}
 use Rattle.authority_model.specs.Admins.{allowed}
 use Rattle.authority_model.specs.Items.{sent, count_to, world_of, policy_of}
@@ -17,7 +17,7 @@ use Rattle.authority_model.specs.Challenges.{pending, opened, opened_count, clos
 use Rattle.authority_model.specs.Answers.{begin_to}
 use Rattle.authority_model.specs.Legal.{Legal, Follows}
 use Rattle.authority_model.proofs.Cases.{both, filter_has, map_has, append_has}
-use Rattle.authority_laws.proofs.OnlyOne.{one_filter, one_append, one_map, find_none, none_passes}
+use Rattle.authority_laws.proofs.OnlyOne.{unless, find_append, find_filter, find_map, one_filter, one_append, one_map, find_none, none_passes}
 use Rattle.authority_laws.proofs.Opening.{opening, asked}
 use Rattle.authority_laws.proofs.Standing.{not_some, not_true}
 
@@ -69,6 +69,13 @@ pub one_pending_short : (test : Pending → Bool) → ((past : List Item) (i : I
     → ((past : List Item) (i : Item) (ch : Pending) → Legal (i ∷ past) → length past < 2 ^ 63 → opened past i ≡ Some ch → test ch ≡ true → (c : Pending) → Has (pending past) c → test c ≡ false)
     → (past : List Item) → Legal past → length past < 2 ^ 63 → AtMostOne test (pending past)
 one_pending_short test same fresh past legal short = one_pending_where (λ past. length past < 2 ^ 63) (λ past i q. omega arith) test same fresh past legal short
+
+-- A search by a test that no answer changes: what was found before, with its answer, unless the item closes it; else the challenge that the item opens, if it passes.
+pub pending_step : (test : Pending → Bool) → ((past : List Item) (i : Item) (ch : Pending) → test (with_answer past i ch) ≡ test ch) → (past : List Item) → AtMostOne test (pending past) → (i : Item)
+    → find test (pending (i ∷ past)) ≡ or_else (option_map (with_answer past i) (unless (λ ch. closes past ch i) (find test (pending past)))) (find test (option_to_list (opened past i)))
+pending_step test same past one i =
+    find_append test (map (with_answer past i) (filter (λ ch. not (closes past ch i)) (pending past))) (option_to_list (opened past i))
+    ∙ ap (λ o. or_else o (find test (option_to_list (opened past i)))) (find_map test (with_answer past i) (same past i) (filter (λ ch. not (closes past ch i)) (pending past)) ∙ ap (option_map (with_answer past i)) (find_filter test (λ ch. closes past ch i) (pending past) one))
 
 self_count : (c : ℕ) (m : Message) → count_to c (record { to = c; message = m } ∷ []) ≡ 1
 self_count c m = ap (λ b. (if b then 1 else 0) + 0) ((Decides-eqb c c).1 refl)

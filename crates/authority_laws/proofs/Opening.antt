@@ -20,7 +20,7 @@ use Rattle.authority_model.specs.Challenges.{Question, question_in, begun_in, op
 use Rattle.authority_model.specs.Answers.{ask}
 use Rattle.authority_model.specs.Legal.{Follows}
 use Rattle.authority_model.proofs.Cases.{map_some, then_some}
-use Rattle.authority_laws.proofs.Tracing.{outputs_ask, question_is}
+use Rattle.authority_laws.proofs.Asking.{outputs_ask, question_is}
 
 -- the parts of a challenge that an item opens
 pub record Opening (past : List Item) (i : Item) (ch : Pending) : Type 0 where

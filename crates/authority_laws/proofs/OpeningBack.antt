@@ -7,15 +7,50 @@ use Rattle.authority_model.specs.declared.journal.Item.{Item}
 use Rattle.authority_model.specs.declared.message.Output.{Output}
 use Rattle.authority_model.specs.declared.pending.Pending.{Pending}
 use Rattle.authority_model.specs.Lists.{or_else}
-use Rattle.authority_model.specs.Items.{sent, count_to}
+use Rattle.authority_model.specs.Admins.{allowed}
+use Rattle.authority_model.specs.Items.{sent, count_to, world_of, policy_of}
 use Rattle.authority_model.specs.Peers.{uid_of}
-use Rattle.authority_model.specs.Challenges.{Question, question_in, begun, begun_in, opened, opened_at, opened_with, opened_for, opened_by, opened_to, challenge_of}
+use Rattle.authority_model.specs.Challenges.{Question, question_in, begun, begun_in, opened, opened_count, opened_at, opened_with, opened_for, opened_by, opened_to, challenge_of}
 use Rattle.authority_model.specs.Answers.{begin_to}
 use Rattle.authority_model.specs.Legal.{Follows}
-use Rattle.authority_model.specs.Licensed.{NthTo}
+use Rattle.authority_model.specs.Licensed.{Asks, NthTo}
 use Rattle.authority_model.specs.LookBack.{Opens}
-use Rattle.authority_laws.proofs.Tracing.{outputs_ask}
+use Rattle.authority_laws.proofs.Asking.{outputs_ask}
 use Rattle.authority_laws.proofs.Opening.{opening, asked}
+
+second_of : {A B : Type 0} (b : A × B) (x : A) (y : B) → Some b ≡ Some (x, y) → b.1 ≡ y
+second_of b x y e = cc
+
+-- the item opened the challenge
+abbrev pub Began : List Item → Item → Pending → Type 0
+Began before q ch = Asks before q ch.asker ch.serial ch.agent ch.agent_serial ch.action ch.key ch.cookie ch.identities
+
+-- an item that opens a challenge asks for it
+pub began : (past : List Item) (i : Item) (ch : Pending) → Follows past i → opened past i ≡ Some ch → Began past i ch
+began past i ch follows e =
+    let p = opening past i ch e in
+    let a = asked past i ch follows p in
+    let begin : Output = begin_to past i.entry.salt p.f p.a a.action p.v.0 a.details in
+    let begins : begun begin.message ≡ Some p.b = sym (ap begun_in a.outputs) ∙ p.begins in
+    let offered : p.b.1 ≡ allowed (world_of past) (policy_of past).admins p.v.0 p.f.uid = second_of p.b (record { serial = opened_count past + 1; salt = i.entry.salt }) (allowed (world_of past) (policy_of past).admins p.v.0 p.f.uid) (sym begins) in
+    subst (Began past i) p.whole (record {
+      subject = p.q.subject;
+      check = record { caller = refl; quiet = p.q.quiet; details = p.details; flags = p.flags; cancel = p.q.cancel; event = p.event };
+      f = p.f;
+      facts_are = p.facts_are;
+      key_is = refl;
+      value = p.v.0;
+      source = p.v.1;
+      value_is = p.value_is;
+      agent = p.a;
+      agent_is = p.agent_is;
+      agent_caller = refl;
+      begin = begin;
+      identities = p.b.1;
+      begins = begins;
+      placed = subst (NthTo p.a.caller (sent past p.a.caller) (sent past p.a.caller + 1) begin) (sym a.outputs) (inl (refl, refl, refl));
+      offered_are = offered;
+    })
 
 -- what opens a challenge does so as the sentence says
 pub opens_is : (past : List Item) (i : Item) (o : Pending) → Follows past i → opened past i ≡ Some o → Opens past i o

@@ -15,8 +15,8 @@ use Rattle.authority_model.specs.Legal.{Legal}
 use Rattle.authority_model.specs.Licensed.{Answers, NoneAnswers, FirstAnswers}
 use Rattle.authority_model.specs.LookBack.{unanswered, NoneOf, Opens, IsPending, IsAnswered}
 use Rattle.authority_model.proofs.Cases.{map_has}
-use Rattle.authority_laws.proofs.Tracing.{FirstIs, answer_is, answer_found}
-use Rattle.authority_laws.proofs.OpeningBack.{opens_is, is_opened}
+use Rattle.authority_laws.proofs.Answering.{FirstIs, answer_is, answer_found}
+use Rattle.authority_laws.proofs.OpeningBack.{Began, began, opens_is, is_opened}
 use Rattle.authority_laws.proofs.OnePending.{each_pending}
 use Rattle.authority_laws.proofs.Standing.{has_left, has_right, filter_in, map_in}
 
@@ -27,6 +27,7 @@ pub record Stood (past : List Item) (ch : Pending) : Type 0 where
   pub before : List Item
   pub parts : past ≡ later ++ i ∷ before
   pub opens : Opens before i (unanswered ch)
+  pub began : Began before i ch
   pub stands : NoneOf (λ past j. closes past ch j) later (i ∷ before)
   pub first : FirstIs later (i ∷ before) ch.cookie ch.identities ch.answered
 
@@ -37,7 +38,7 @@ all_stood = each_pending Stood opens stays
     opens : (past : List Item) (i : Item) (ch : Pending) → Legal (i ∷ past) → opened past i ≡ Some ch → Stood (i ∷ past) ch
     opens past i ch legal e =
         let o = opens_is past i ch legal.0 e in
-        record { later = []; i = i; before = past; parts = refl; opens = subst (Opens past i) (ap (λ a. record ch { answered = a }) o.unanswered) o; stands = tt; first = subst (FirstIs [] (i ∷ past) ch.cookie ch.identities) (sym o.unanswered) tt }
+        record { later = []; i = i; before = past; parts = refl; opens = subst (Opens past i) (ap (λ a. record ch { answered = a }) o.unanswered) o; began = began past i ch legal.0 e; stands = tt; first = subst (FirstIs [] (i ∷ past) ch.cookie ch.identities) (sym o.unanswered) tt }
 
     stays : (past : List Item) (i : Item) (ch : Pending) → Legal (i ∷ past) → Stood past ch → closes past ch i ≡ false → Stood (i ∷ past) (with_answer past i ch)
     stays past i ch legal t open' = record {
@@ -46,6 +47,7 @@ all_stood = each_pending Stood opens stays
       before = t.before;
       parts = ap (λ xs. i ∷ xs) t.parts;
       opens = t.opens;
+      began = t.began;
       stands = (subst (λ xs. closes xs ch i ≡ false) t.parts open', t.stands);
       first = of ch.answered t.first (answer_to past ch i) refl;
     }
