@@ -1,6 +1,6 @@
 -- Each yes that an event is answered is licensed.
 use Rattle.std.proofs.Common.{◌≡◌, ℕ, ◌==◌, ◌%◌, Bool, true, false, ◌&&◌, ◌||◌, not, List, [], ◌∷◌, ◌++◌, refl, inl, inr, Option, Some, None, is_some}
-use Rattle.std.specs.Prelude.{if◌then◌else◌, find, filter, bytes_eq, flat_map, nat_le}
+use Rattle.std.specs.Prelude.{if◌then◌else◌, find, bytes_eq, flat_map, nat_le}
 use Rattle.std.specs.Option.{option_map_or}
 use Rattle.pk_types.specs.declared.values.Pair.{Pair}
 use Rattle.pk_types.specs.declared.values.Subject.{Subject}

@@ -7,7 +7,7 @@ use Rattle.std.specs.Prelude.{sum_by}
 use Rattle.authority_model.specs.declared.journal.Entry.{Entry}
 use Rattle.authority_model.specs.declared.journal.History.{History}
 use Rattle.authority_model.specs.declared.message.Output.{Output}
-use Rattle.authority_model.specs.Costs.{bytes_of, capped, cost_of_entry, cost_of_event, cost_of_load, cost_of_message, cost_of_output}
+use Rattle.authority_model.specs.Costs.{bytes_of, capped, cost_of_entry, cost_of_event, cost_of_output}
 use Rattle.authority_laws.specs.Counted.{outputs_in}
 
 -- a cost that counts below the cap counts whole

@@ -2,19 +2,18 @@
 use Rattle.std.proofs.Common.{◌≡◌, ℕ, ◌==◌, ◌+◌, ◌<◌, Bool, true, false, not, List, [], ◌∷◌, ◌++◌, refl, ap, sym, ◌∙◌, inl, inr, ◌⊎◌, Option, Some, None, subst, length, arith}
 use Rattle.std.proofs.lemmas.Bool.Decides.{Decides-eqb}
 use Rattle.std.proofs.lemmas.List.{append-nil}
-use Rattle.std.specs.Prelude.{filter, find, map, option_map, option_to_list}
+use Rattle.std.specs.Prelude.{filter, option_to_list}
 use Rattle.authority_model.specs.declared.verdict.GrantRow.{GrantRow}
 use Rattle.authority_model.specs.declared.journal.Item.{Item}
 use Rattle.authority_model.specs.declared.pending.Pending.{Pending}
-use Rattle.authority_model.specs.Lists.{Has, AtMostOne, or_else}
+use Rattle.authority_model.specs.Lists.{Has, AtMostOne}
 use Rattle.authority_model.specs.Worlds.{lists_key}
 use Rattle.authority_model.specs.Items.{world_of}
 use Rattle.authority_model.specs.Agents.{unlists}
-use Rattle.authority_model.specs.Challenges.{pending, opened, closes, with_answer}
 use Rattle.authority_model.specs.Grants.{kept, made, granted, ends_grant, revokes}
 use Rattle.authority_model.specs.Legal.{Legal}
 use Rattle.authority_model.proofs.Cases.{append_has, filter_has}
-use Rattle.authority_laws.proofs.OnlyOne.{unless, find_append, find_filter, find_map, find_none, one_filter, one_append}
+use Rattle.authority_laws.proofs.OnlyOne.{find_none, one_filter, one_append}
 use Rattle.authority_laws.proofs.GrantsBack.{granted_is}
 use Rattle.authority_laws.proofs.PendingBack.{pending_forth}
 use Rattle.authority_laws.proofs.ListedKeys.{listed_step, listed_beside, unloaded, pending_listed}

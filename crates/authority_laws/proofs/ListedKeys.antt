@@ -15,7 +15,7 @@ use Rattle.authority_model.specs.declared.load.Loaded.{Loaded}
 use Rattle.authority_model.specs.declared.world.Process.{Process as ProcessRow}
 use Rattle.authority_model.specs.declared.world.Session.{Session as SessionRow}
 use Rattle.authority_model.specs.Words.{Bytes}
-use Rattle.authority_model.specs.Lists.{Has, any_of, or_else}
+use Rattle.authority_model.specs.Lists.{Has, or_else}
 use Rattle.authority_model.specs.Keys.{same_key}
 use Rattle.authority_model.specs.Facts.{Facts, facts_of_process, facts_of_session}
 use Rattle.authority_model.specs.Worlds.{lists_key, process_row, session_row}
