@@ -47,9 +47,9 @@ text_done code letter t old a b c d final which a-is b-is c-is d-is final-is =
     let f : final ≡ c ++ x = final-is ∙ ap (λ (y : List ℕ). y ++ v) d-is ∙ append_assoc c (padding (gap 4 (length c))) v in
     let Q = length old + gap 8 (length old) + 1 + 1 + 2 in
     field_front code letter old a b c x final a-is b-is c-is f ∙ ap (λ (q : ℕ). old ++ ((padding (gap 8 (length old)) ++ (code ∷ (1 ∷ (letter ∷ (0 ∷ (padding (gap 4 q) ++ v)))))) ++ [])) place ∙ go letter which where
-  go : (l : ℕ) → (l ≡ 111) ⊎ (l ≡ 115) → old ++ ((padding (gap 8 (length old)) ++ (code ∷ (1 ∷ (l ∷ (0 ∷ (padding (gap 4 (length old + gap 8 (length old) + 1 + 1 + 2)) ++ (bytes_of false w32 (length t) ++ (t ++ 0 ∷ [])))))))) ++ []) ≡ old ++ fields_bytes false (length old) (text_field code l (Some t))
-  go l (inl e) = subst (λ (l : ℕ). old ++ ((padding (gap 8 (length old)) ++ (code ∷ (1 ∷ (l ∷ (0 ∷ (padding (gap 4 (length old + gap 8 (length old) + 1 + 1 + 2)) ++ (bytes_of false w32 (length t) ++ (t ++ 0 ∷ [])))))))) ++ []) ≡ old ++ fields_bytes false (length old) (text_field code l (Some t))) (sym e) refl
-  go l (inr e) = subst (λ (l : ℕ). old ++ ((padding (gap 8 (length old)) ++ (code ∷ (1 ∷ (l ∷ (0 ∷ (padding (gap 4 (length old + gap 8 (length old) + 1 + 1 + 2)) ++ (bytes_of false w32 (length t) ++ (t ++ 0 ∷ [])))))))) ++ []) ≡ old ++ fields_bytes false (length old) (text_field code l (Some t))) (sym e) refl
+      go : (l : ℕ) → (l ≡ 111) ⊎ (l ≡ 115) → old ++ ((padding (gap 8 (length old)) ++ (code ∷ (1 ∷ (l ∷ (0 ∷ (padding (gap 4 (length old + gap 8 (length old) + 1 + 1 + 2)) ++ (bytes_of false w32 (length t) ++ (t ++ 0 ∷ [])))))))) ++ []) ≡ old ++ fields_bytes false (length old) (text_field code l (Some t))
+      go l (inl e) = subst (λ (l : ℕ). old ++ ((padding (gap 8 (length old)) ++ (code ∷ (1 ∷ (l ∷ (0 ∷ (padding (gap 4 (length old + gap 8 (length old) + 1 + 1 + 2)) ++ (bytes_of false w32 (length t) ++ (t ++ 0 ∷ [])))))))) ++ []) ≡ old ++ fields_bytes false (length old) (text_field code l (Some t))) (sym e) refl
+      go l (inr e) = subst (λ (l : ℕ). old ++ ((padding (gap 8 (length old)) ++ (code ∷ (1 ∷ (l ∷ (0 ∷ (padding (gap 4 (length old + gap 8 (length old) + 1 + 1 + 2)) ++ (bytes_of false w32 (length t) ++ (t ++ 0 ∷ [])))))))) ++ []) ≡ old ++ fields_bytes false (length old) (text_field code l (Some t))) (sym e) refl
 
 pub signature_done : (sig old a b c final : List ℕ) → 1 ≤ length sig → a ≡ old ++ padding (gap 8 (length old)) → b ≡ a ++ 8 ∷ [] → c ≡ b ++ (1 ∷ 103 ∷ 0 ∷ []) → final ≡ c ++ (length sig ∷ (sig ++ 0 ∷ [])) → final ≡ old ++ fields_bytes false (length old) (signature_field sig)
 unfolding padding
@@ -82,21 +82,21 @@ fields_then old mid final xs ys mid-is final-is =
     let m = fields_bytes false (length old) xs in
     let place : length mid ≡ length old + length m = ap length mid-is ∙ length-append old m in
     final-is ∙ ap (λ (q : ℕ). mid ++ fields_bytes false q ys) place ∙ ap (λ (y : List ℕ). y ++ fields_bytes false (length old + length m) ys) mid-is ∙ append_assoc old m (fields_bytes false (length old + length m) ys) ∙ ap (λ (y : List ℕ). old ++ y) (sym (joined (length old) xs)) where
-  joined : (at : ℕ) (xs : List Field) → fields_bytes false at (xs ++ ys) ≡ fields_bytes false at xs ++ fields_bytes false (at + length (fields_bytes false at xs)) ys
-  joined at [] = let k : at + 0 ≡ at = omega arith in rw k refl
-  joined at (f ∷ fs) =
-      let one = field_bytes false at f in
-      let others = fields_bytes false (at + length one) fs in
-      let k : at + length one + length others ≡ at + length (one ++ others) = omega (arith, length-append one others) in
-      ap (λ (y : List ℕ). one ++ y) (joined (at + length one) fs) ∙ ap (λ (q : ℕ). one ++ (others ++ fields_bytes false q ys)) k ∙ sym (append_assoc one others (fields_bytes false (at + length (one ++ others)) ys))
+      joined : (at : ℕ) (xs : List Field) → fields_bytes false at (xs ++ ys) ≡ fields_bytes false at xs ++ fields_bytes false (at + length (fields_bytes false at xs)) ys
+      joined at [] = let k : at + 0 ≡ at = omega arith in rw k refl
+      joined at (f ∷ fs) =
+          let one = field_bytes false at f in
+          let others = fields_bytes false (at + length one) fs in
+          let k : at + length one + length others ≡ at + length (one ++ others) = omega (arith, length-append one others) in
+          ap (λ (y : List ℕ). one ++ y) (joined (at + length one) fs) ∙ ap (λ (q : ℕ). one ++ (others ++ fields_bytes false q ys)) k ∙ sym (append_assoc one others (fields_bytes false (at + length (one ++ others)) ys))
 
 -- what is left of a bound behind the first fields
 pub fields_short : (old : List ℕ) (xs ys : List Field) (limit : ℕ) → length old + length (fields_bytes false (length old) (xs ++ ys)) ≤ limit
     → (length old + length (fields_bytes false (length old) xs) ≤ limit) × ((mid : List ℕ) → mid ≡ old ++ fields_bytes false (length old) xs → length mid + length (fields_bytes false (length mid) ys) ≤ limit)
 fields_short old xs ys limit short =
     let all : (mid : List ℕ) → mid ≡ old ++ fields_bytes false (length old) xs → length mid + length (fields_bytes false (length mid) ys) ≡ length old + length (fields_bytes false (length old) (xs ++ ys)) = λ mid e.
-        (let h : mid ++ fields_bytes false (length mid) ys ≡ old ++ fields_bytes false (length old) (xs ++ ys) = fields_then old mid (mid ++ fields_bytes false (length mid) ys) xs ys e refl in
-        sym (length-append mid (fields_bytes false (length mid) ys)) ∙ ap length h ∙ length-append old (fields_bytes false (length old) (xs ++ ys))) in
+    (let h : mid ++ fields_bytes false (length mid) ys ≡ old ++ fields_bytes false (length old) (xs ++ ys) = fields_then old mid (mid ++ fields_bytes false (length mid) ys) xs ys e refl in
+    sym (length-append mid (fields_bytes false (length mid) ys)) ∙ ap length h ∙ length-append old (fields_bytes false (length old) (xs ++ ys))) in
     let first = all (old ++ fields_bytes false (length old) xs) refl in
     (omega (arith, first, length-append old (fields_bytes false (length old) xs), short), λ mid e. omega (arith, all mid e, short))
 

@@ -102,6 +102,7 @@ struct_forms items h = go (subst HasForm (tree_struct items) h) where
   inner : (item : Bool) (d : ℕ) → FitsAs item d (trees.Struct (list_trees items.items.items)) → AllForm items.items.items
   inner item zero fits = absurd fits
   inner item (suc d) fits = each_forms (FitsAs false d) (λ t f. (false, d, f)) items.items.items fits.1
+
   go : HasForm (trees.Struct (list_trees items.items.items)) → AllForm items.items.items
   go f = inner f.0 f.1 f.2
 
@@ -111,6 +112,7 @@ array_forms of items h = go (subst HasForm (tree_array of items) h) where
   inner : (item : Bool) (d : ℕ) → FitsAs item d (trees.Array of (list_trees items.items.items)) → AllForm items.items.items
   inner item zero fits = absurd fits
   inner item (suc d) fits = each_forms (λ t. (type_of t ≡ of) × FitsAs true d t) (λ t f. (true, d, f.1)) items.items.items fits.1
+
   go : HasForm (trees.Array of (list_trees items.items.items)) → AllForm items.items.items
   go f = inner f.0 f.1 f.2
 
@@ -176,7 +178,7 @@ struct_done items value vs i old padded out value-is vs-is le padded-is so_far =
     let e : out ++ [] ≡ padded ++ all_marshalled false (length padded) (list_trees vs) = subst (λ (ws : List Value). out ++ all_marshalled false (length out) (list_trees ws) ≡ padded ++ all_marshalled false (length padded) (list_trees vs)) (drop_all i vs le) so_far in
     let len : length padded ≡ length old + g = ap length padded-is ∙ length-padded old g in
     let f : padded ++ all_marshalled false (length padded) (list_trees vs) ≡ old ++ (padding g ++ all_marshalled false (length old + g) (list_trees vs)) =
-        ap (λ (q : ℕ). padded ++ all_marshalled false q (list_trees vs)) len ∙ ap (λ (x : List ℕ). x ++ all_marshalled false (length old + g) (list_trees vs)) padded-is ∙ append_assoc old (padding g) (all_marshalled false (length old + g) (list_trees vs)) in
+    ap (λ (q : ℕ). padded ++ all_marshalled false q (list_trees vs)) len ∙ ap (λ (x : List ℕ). x ++ all_marshalled false (length old + g) (list_trees vs)) padded-is ∙ append_assoc old (padding g) (all_marshalled false (length old + g) (list_trees vs)) in
     sym (append-nil out) ∙ e ∙ f ∙ ap (λ (u : Tree). old ++ marshalled false (length old) u) (sym (struct_is items value vs value-is vs-is))
 
 -- ---- arrays

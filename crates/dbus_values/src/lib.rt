@@ -17,24 +17,24 @@ pub mod laws;
 mod message;
 mod part;
 mod parts;
+mod posting;
 mod signature;
 mod start;
 mod strings;
 mod value;
 mod walk;
-mod wire_out;
 mod wire_message;
+mod wire_out;
 mod write;
-mod posting;
 
 pub use fault::FaultKind;
 pub use message::{Next, next_message};
 pub use part::Part;
 pub use parts::Parts;
+pub use posting::write_message;
 pub use value::{Value, ValueList};
 pub use wire_message::WireMessage;
 pub use wire_out::{HeaderOut, WireOut};
-pub use posting::write_message;
 
 #[cfg(test)]
 mod tests;

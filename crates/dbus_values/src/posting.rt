@@ -8,7 +8,9 @@ ghost use Rattle.dbus_values.specs.Written.{list_trees, AllForm, text_field, num
 
 use crate::value::ValueList;
 use crate::wire_out::WireOut;
-use crate::write::{length_of, pad_to, patch, put_byte, put_signature, put_text, put_type, put_u32, put_value};
+use crate::write::{
+    length_of, pad_to, patch, put_byte, put_signature, put_text, put_type, put_u32, put_value,
+};
 use pk_types::{ByteList, NoMemory, Text};
 use std::alloc::{AllocError, Global};
 

@@ -17,7 +17,6 @@ loop-item-init t c = record {
 pub put_value-requires : goal.put_value-requires
 put_value-requires t c = (search (rules, the_lemmas), ((drop_form _ c.loop-item.item-index _ c.loop-item-test.true (sym c.item-item.is) c.loop-item.invariant.forms).0, next_short _ c.loop-item.item-index _ _ _ 16777216 c.loop-item-test.true (sym c.item-item.is) c.loop-item.invariant.so_far c.loop-item.invariant.short))
 
-
 pub loop-member-init : goal.loop-member-init
 loop-member-init t c = record {
   so_far = refl;
@@ -27,7 +26,6 @@ loop-member-init t c = record {
 
 pub put_value-requires-in-loop-member : goal.put_value-requires-in-loop-member
 put_value-requires-in-loop-member t c = (search (rules, the_lemmas), ((drop_form _ c.loop-member.member-index _ c.loop-member-test.true (sym c.member-item.is) c.loop-member.invariant.forms).0, next_short _ c.loop-member.member-index _ _ _ 16777216 c.loop-member-test.true (sym c.member-item.is) c.loop-member.invariant.so_far c.loop-member.invariant.short))
-
 
 pub returns-after-loop-item : goal.returns-after-loop-item
 returns-after-loop-item t c = record { exact = array_done c.in-Array.of c.in-Array.items c.args.value.now _ _ c.loop-item.item-index _ _ _ _ _ _ _ _ c.in-Array.is c.deref-item-items.ensures.value c.loop-item-test.false c.bytes-in-Array.ensures.bytes c.in_ok-pad_to-in-Array.ensures.exact c.in_ok-put_u32-in-Array.ensures.exact (c.in_ok-pad_to-in-Array-2.ensures.exact ∙ ap (λ (n : ℕ). c.put_u32-in-Array.new.out.items ++ padding (gap n (length c.put_u32-in-Array.new.out.items))) c.item_align.ensures.exact) c.loop-item.invariant.so_far c.length_of-at.ensures.exact (omega (arith, c.length_of.ensures.exact, c.length_of-start.ensures.exact)) c.patch.ensures.exact }
@@ -44,10 +42,8 @@ variant_is value inner v is v-is = ap tree is ∙ ap (λ (x : Value). trees.Vari
 pub put_value-requires-in-Entry : goal.put_value-requires-in-Entry
 put_value-requires-in-Entry t c = (search (rules, the_lemmas), ((entry_form c.args.value.now c.deref.result.now c.in-Entry.mapped.value (entry_is _ _ _ _ _ c.in-Entry.is c.deref.ensures refl) c.requires.form).0, key_short c.args.value.now (tree c.deref.result.now) (tree c.in-Entry.mapped.value) _ _ (entry_is _ _ _ _ _ c.in-Entry.is c.deref.ensures refl) c.in_ok-pad_to-in-Entry.ensures.exact c.requires.short))
 
-
 pub put_value-requires-in-Entry-2 : goal.put_value-requires-in-Entry-2
 put_value-requires-in-Entry-2 t c = (search (rules, the_lemmas), ((entry_form c.args.value.now c.deref.result.now c.deref-in-Entry.result.now (entry_is _ _ _ _ _ c.in-Entry.is c.deref.ensures c.deref-in-Entry.ensures) c.requires.form).1, mapped_short c.args.value.now (tree c.deref.result.now) (tree c.deref-in-Entry.result.now) _ _ _ (entry_is _ _ _ _ _ c.in-Entry.is c.deref.ensures c.deref-in-Entry.ensures) c.in_ok-pad_to-in-Entry.ensures.exact c.in_ok-put_value-in-Entry.ensures.exact c.requires.short))
-
 
 pub returns-in_ok-put_value-in-Entry : goal.returns-in_ok-put_value-in-Entry
 returns-in_ok-put_value-in-Entry t c = record { exact = on_ok c.put_value-in-Entry-2.result (λ written. entry_done c.args.value.now (tree c.deref.result.now) (tree c.deref-in-Entry.result.now) _ _ _ _ (entry_is _ _ _ _ _ c.in-Entry.is c.deref.ensures c.deref-in-Entry.ensures) c.in_ok-pad_to-in-Entry.ensures.exact c.in_ok-put_value-in-Entry.ensures.exact written) c.put_value-in-Entry-2.ensures.exact }
@@ -62,5 +58,5 @@ pub put_value-requires-in-Variant : goal.put_value-requires-in-Variant
 put_value-requires-in-Variant t c =
     let is = variant_is _ _ c.deref-in-Variant-3.result.now c.in-Variant.is c.deref-in-Variant-3.ensures in
     let type_is : c.deref-in-Variant-2.result.now ≡ type_of (tree c.deref-in-Variant-3.result.now) = c.deref-in-Variant-2.ensures.value ∙ c.in_ok-put_type-in-Variant.ensures.exact ∙ ap (λ (x : List ℕ). x ++ type_of (tree c.deref-in-Variant.result.now)) c.new-signature.ensures.items
-        ∙ ap (λ (v : Value). type_of (tree v)) (c.deref-in-Variant.ensures ∙ sym c.deref-in-Variant-3.ensures) in
+    ∙ ap (λ (v : Value). type_of (tree v)) (c.deref-in-Variant.ensures ∙ sym c.deref-in-Variant-3.ensures) in
     (search (rules, the_lemmas), ((variant_form c.args.value.now c.deref-in-Variant-3.result.now is c.requires.form).0, inner_short c.args.value.now (tree c.deref-in-Variant-3.result.now) _ _ _ is type_is c.in_ok-put_signature-in-Variant.ensures.exact c.requires.short))
