@@ -31,7 +31,7 @@ one_stream bytes (s ∷ ss) (t ∷ ts) r q a b =
 pub whole_form : (a : Answer) (bytes : List ℕ) → IsBytes bytes → a ≡ next_of bytes → IfWhole a (λ seen used. IsForm (take used bytes) seen)
 whole_form (Whole seen used) bytes fits e = let r = whole_found bytes seen used fits (sym e) in (r.message, r.form, r.shown_is)
 whole_form Partial bytes fits e = tt
-whole_form (Bad kind at) bytes fits e = tt
+whole_form (Bad _ _) bytes fits e = tt
 
 -- what has the form of a message is read, whatever follows it
 pub form_whole : (a : Answer) (bytes text more : List ℕ) (seen : Seen) → a ≡ next_of bytes → IsForm text seen → bytes ≡ text ++ more → a ≡ Whole seen (length text)

@@ -7,7 +7,7 @@ use Rattle.dbus_values.specs.Form.{Message, WireForm, shown_of}
 abbrev pub IfWhole : Answer → (Seen → ℕ → Type 0) → Type 0
 IfWhole (Whole seen used) P = P seen used
 IfWhole Partial P = Unit {0}
-IfWhole (Bad kind at) P = Unit {0}
+IfWhole (Bad _ _) P = Unit {0}
 
 -- the bytes have the form of a message that is shown so
 abbrev pub IsForm : List ℕ → Seen → Type 0
