@@ -1,19 +1,16 @@
 -- A message has fewer parts than a walk may have, so what was marshalled is walked to its end.
-use Rattle.std.proofs.Common.{◌≡◌, ℕ, zero, suc, ◌+◌, ◌-◌, ◌*◌, ◌<◌, ◌≤◌, ◌^◌, List, [], ◌∷◌, ◌++◌, length, Bool, true, false, cond, eqb, Result, Ok, Err, refl, sym, ap, subst, ◌∙◌, arith, append_assoc}
+use Rattle.std.proofs.Common.{◌≡◌, ℕ, zero, suc, ◌+◌, ◌*◌, ◌<◌, ◌≤◌, List, [], ◌∷◌, ◌++◌, length, Bool, true, false, cond, eqb, Ok, refl, subst, arith}
 use Rattle.std.specs.Int.{w32}
 use Rattle.std.proofs.lemmas.List.{length-append, append-nil}
-use Rattle.std.proofs.lemmas.Bool.{eqb-true}
 use Rattle.std.proofs.Math.Nat.{mul-le-mul_right}
-use Rattle.dbus_values.specs.declared.fault.Fault.{Fault}
-use Rattle.dbus_values.specs.Reading.{◌>>=◌, bad, Spot, spot_at}
+use Rattle.dbus_values.specs.Reading.{◌>>=◌, spot_at}
 use Rattle.dbus_values.specs.Parts.{Piece}
 use Rattle.dbus_values.specs.Parts as part
 use Rattle.dbus_values.specs.Opened.{Open}
-use Rattle.dbus_values.specs.Types.{class_of, align_of}
 use Rattle.dbus_values.specs.Signatures.{item_align}
 use Rattle.dbus_values.specs.Basics.{gap}
-use Rattle.dbus_values.specs.Walk.{State, state, step, enter, next_in, Walked, walked, walk, is_done, values_at, most_parts}
-use Rattle.dbus_values.specs.Trees.{Tree, Trees, type_of, types_of, pieces, all_pieces, bytes_of, padding, marshalled, all_marshalled, IsNumber, Each, HasOne, FitsAs, Number, Text, Array, Struct, Entry, Variant, none, more}
+use Rattle.dbus_values.specs.Walk.{State, state, step, enter, next_in, walked, walk, is_done, values_at, most_parts}
+use Rattle.dbus_values.specs.Trees.{Tree, Trees, type_of, types_of, pieces, all_pieces, bytes_of, padding, marshalled, all_marshalled, Each, FitsAs, Number, Text, Array, Struct, Entry, Variant, none, more}
 use Rattle.dbus_values.proofs.Loops.{not_zero}
 use Rattle.dbus_values.proofs.Numbers.{wide32}
 use Rattle.dbus_values.proofs.Walking.{Walks, marshalled_pos, values_walk}

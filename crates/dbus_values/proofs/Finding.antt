@@ -1,7 +1,7 @@
 -- What is walked to its end is the marshalled form of values that fit: every value.
-use Rattle.std.proofs.Common.{◌≡◌, ℕ, zero, suc, ◌+◌, ◌-◌, ◌<◌, ◌≤◌, ◌^◌, List, [], ◌∷◌, ◌++◌, length, get_or, take, drop, Bool, true, false, cond, eqb, ltb, Result, Ok, Err, Option, None, Some, refl, sym, ap, subst, ◌∙◌, arith, append_assoc}
+use Rattle.std.proofs.Common.{◌≡◌, ℕ, zero, suc, ◌+◌, ◌-◌, ◌<◌, ◌≤◌, ◌^◌, List, [], ◌∷◌, ◌++◌, length, take, drop, Bool, true, false, cond, eqb, ltb, Result, Ok, Option, None, Some, refl, sym, ap, subst, ◌∙◌, arith, append_assoc}
 use Rattle.std.specs.Int.{w32}
-use Rattle.std.proofs.lemmas.Bool.{ltb-false, ltb-true, le-ltb, lt-ltb, eqb-true}
+use Rattle.std.proofs.lemmas.Bool.{ltb-false, ltb-true, eqb-true}
 use Rattle.std.proofs.lemmas.List.{take-append-drop, length-append, length-take, append-nil}
 use Rattle.dbus_values.specs.declared.class.Class.{Class}
 use Rattle.dbus_values.specs.declared.class.Class.TheVariants as class
@@ -14,16 +14,15 @@ use Rattle.dbus_values.specs.Opened.{Open}
 use Rattle.dbus_values.specs.Opened as open_part
 use Rattle.dbus_values.specs.Types.{class_of, align_of, is_basic}
 use Rattle.dbus_values.specs.Signatures.{after_item, after_type, is_signature, item_align}
-use Rattle.dbus_values.specs.Basics.{gap, zeros, pad, number_at, signature_at, leaf_at}
-use Rattle.dbus_values.specs.Walk.{State, state, rest_of, resume, resumed, enter, enter_by, enter_array, enter_struct, enter_variant, enter_entry, enter_item, in_items, in_members, in_key, in_closing, next_in, step, Walked, walked, walk, is_done}
-use Rattle.dbus_values.specs.Trees.{Tree, Trees, type_of, types_of, bytes_of, padding, marshalled, all_marshalled, IsBasic, IsItem, Each, HasOne, FitsAs, Fits, AllFit, Number, Text, Array, Struct, Entry, Variant, none, more}
+use Rattle.dbus_values.specs.Basics.{gap, pad, number_at, signature_at}
+use Rattle.dbus_values.specs.Walk.{State, state, rest_of, resume, enter, enter_by, enter_array, enter_struct, enter_variant, Walked, walked, walk}
+use Rattle.dbus_values.specs.Trees.{Trees, type_of, types_of, bytes_of, padding, marshalled, all_marshalled, Each, HasOne, FitsAs, Array, Struct, Variant, none, more}
 use Rattle.dbus_values.proofs.Loops.{not_zero}
-use Rattle.dbus_values.proofs.Numbers.{IsBytes, IsBytes-rest, IsBytes-take, bind_ok, guard_ok, held_ok, ok_is, length-padding, zeros_takes, number_takes, sig_takes, wide32}
-use Rattle.dbus_values.proofs.Leaves.{leaf_takes}
-use Rattle.dbus_values.proofs.Walking.{enter_by_leaf, item_front}
+use Rattle.dbus_values.proofs.Numbers.{IsBytes, IsBytes-rest, IsBytes-take, ok_is, length-padding, zeros_takes, number_takes, sig_takes, wide32}
+use Rattle.dbus_values.proofs.Walking.{item_front}
 use Rattle.dbus_values.proofs.Grammar.{item_split}
 use Rattle.dbus_values.proofs.Letters.{array_letter, struct_letter, variant_letter}
-use Rattle.dbus_values.proofs.Found.{bind_bind, guard_bind, held_bind, Going, going, open_done, nothing_left, resumed_goes, Read, Got, got_read, leaf_got, Finds, Members, members_found}
+use Rattle.dbus_values.proofs.Found.{bind_bind, guard_bind, held_bind, going, open_done, nothing_left, Read, Got, got_read, leaf_got, Finds, members_found}
 use Rattle.dbus_values.proofs.Contained.{items_found}
 
 rest_of_ok : (o : Option (List ℕ)) (at : ℕ) (x : List ℕ) → rest_of o at ≡ Ok x → o ≡ Some x

@@ -1,24 +1,22 @@
 -- A header field that was marshalled is read again, and what is read was marshalled so.
-use Rattle.std.proofs.Common.{◌≡◌, ℕ, zero, suc, ◌+◌, ◌-◌, ◌<◌, ◌≤◌, ◌^◌, List, [], ◌∷◌, ◌++◌, length, get_or, Bool, true, false, cond, eqb, ltb, not, Result, Ok, Err, Option, None, Some, refl, sym, ap, subst, ◌∙◌, arith, append_assoc, inl, inr, ◌⊎◌}
+use Rattle.std.proofs.Common.{◌≡◌, ℕ, zero, suc, ◌+◌, ◌<◌, ◌≤◌, ◌^◌, List, [], ◌∷◌, ◌++◌, length, Bool, true, false, cond, eqb, ltb, Ok, refl, sym, ap, subst, ◌∙◌, arith, append_assoc, inl, inr, ◌⊎◌}
 use Rattle.std.specs.Prelude.{◌==◌, ◌||◌, ◌&&◌}
 use Rattle.std.specs.Int.{w32}
-use Rattle.std.proofs.lemmas.Bool.{ltb-false, ltb-true, le-ltb, lt-ltb, eqb-true, eqb-false, eq-eqb}
+use Rattle.std.proofs.lemmas.Bool.{le-ltb, lt-ltb, eqb-true, eq-eqb}
 use Rattle.std.proofs.lemmas.List.{length-append, append-nil}
 use Rattle.dbus_values.specs.declared.class.Class.{Class}
 use Rattle.dbus_values.specs.declared.class.Class.TheVariants as class
-use Rattle.dbus_values.specs.declared.fault.Fault.{Fault}
-use Rattle.dbus_values.specs.declared.fault.FaultKind.TheVariants as fault
-use Rattle.dbus_values.specs.Reading.{◌>>=◌, bad, Spot, spot_at}
+use Rattle.dbus_values.specs.Reading.{Spot, spot_at}
 use Rattle.dbus_values.specs.Types.{class_of, align_of}
-use Rattle.dbus_values.specs.Signatures.{after_type, are_types, type_end, is_signature}
-use Rattle.dbus_values.specs.Basics.{gap, zeros, pad, byte_at, number_at, string_at, signature_at}
-use Rattle.dbus_values.specs.Walk.{rest_of, values_at, Walked, walked}
-use Rattle.dbus_values.specs.Header.{Header, no_fields, has, put_text, put_number, type_code, number_field, text_field, known_field, passed_field, field_at, fields_at}
-use Rattle.dbus_values.specs.Trees.{Tree, Trees, type_of, types_of, bytes_of, padding, text_bytes, marshalled, all_marshalled, all_pieces, IsString, FitsAs, Each, Number, Text, Array, Struct, Entry, Variant, none, more}
+use Rattle.dbus_values.specs.Signatures.{are_types, type_end, is_signature}
+use Rattle.dbus_values.specs.Basics.{gap, byte_at, signature_at}
+use Rattle.dbus_values.specs.Walk.{values_at, walked}
+use Rattle.dbus_values.specs.Header.{Header, put_text, put_number, type_code, number_field, text_field, known_field, passed_field, field_at, fields_at}
+use Rattle.dbus_values.specs.Trees.{Tree, bytes_of, padding, text_bytes, marshalled, all_pieces, IsString, Number, Text, Array, Struct, Entry, Variant, none, more}
 use Rattle.dbus_values.specs.Form.{Field, field_bytes, fields_bytes, IsKnown, IsUnknown, IsField, AreFields, put_value, put, header_from}
 use Rattle.dbus_values.proofs.Loops.{not_zero}
-use Rattle.dbus_values.proofs.Numbers.{IsBytes, IsBytes-rest, bind_ok, guard_ok, held_ok, ok_is, Takes, takes_then, length-padding, zeros_again, zeros_takes, number_again, number_takes, byte_takes, sig_again, sig_takes, wide32}
-use Rattle.dbus_values.proofs.Leaves.{string_again, string_takes}
+use Rattle.dbus_values.proofs.Numbers.{length-padding, zeros_again, number_again, sig_again, wide32}
+use Rattle.dbus_values.proofs.Leaves.{string_again}
 use Rattle.dbus_values.proofs.Counting.{values_again}
 
 -- the signature of a known field's value

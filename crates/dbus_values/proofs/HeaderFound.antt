@@ -1,23 +1,21 @@
 -- Header fields that are read are the marshalled form of fields that a header may have.
-use Rattle.std.proofs.Common.{◌≡◌, ℕ, zero, suc, ◌+◌, ◌-◌, ◌<◌, ◌≤◌, ◌^◌, List, [], ◌∷◌, ◌++◌, length, get_or, drop, Bool, true, false, cond, eqb, ltb, not, Result, Ok, Err, Option, None, Some, refl, sym, ap, subst, ◌∙◌, arith, append_assoc, inl, inr, ◌⊎◌}
+use Rattle.std.proofs.Common.{◌≡◌, ℕ, zero, suc, ◌+◌, ◌<◌, ◌≤◌, ◌^◌, List, [], ◌∷◌, ◌++◌, length, get_or, drop, Bool, true, false, cond, eqb, ltb, not, Result, Ok, refl, sym, ap, subst, ◌∙◌, arith, append_assoc, inl, inr}
 use Rattle.std.specs.Prelude.{◌==◌, ◌||◌, ◌&&◌}
 use Rattle.std.specs.Int.{w32}
-use Rattle.std.proofs.lemmas.Bool.{ltb-false, ltb-true, le-ltb, lt-ltb, eqb-true, eqb-false, eq-eqb}
+use Rattle.std.proofs.lemmas.Bool.{ltb-false, ltb-true, eqb-true, eqb-false, eq-eqb}
 use Rattle.std.proofs.lemmas.List.{length-append, append-nil}
 use Rattle.dbus_values.specs.declared.fault.Fault.{Fault}
 use Rattle.dbus_values.specs.declared.fault.FaultKind.TheVariants as fault
 use Rattle.dbus_values.specs.Reading.{◌>>=◌, bad, Spot, spot_at}
 use Rattle.dbus_values.specs.Types.{class_of, align_of}
-use Rattle.dbus_values.specs.Signatures.{after_type, is_signature}
 use Rattle.dbus_values.specs.Basics.{gap, pad, byte_at, number_at, string_at, signature_at}
-use Rattle.dbus_values.specs.Walk.{rest_of, values_at, Walked, walked, most_parts}
-use Rattle.dbus_values.specs.Header.{Header, no_fields, has, put_text, put_number, type_code, number_field, text_field, known_field, passed_field, field_at, fields_at}
+use Rattle.dbus_values.specs.Walk.{values_at, Walked, most_parts}
+use Rattle.dbus_values.specs.Header.{Header, has, put_text, put_number, type_code, number_field, text_field, known_field, passed_field, field_at, fields_at}
 use Rattle.dbus_values.specs.Trees.{Tree, Trees, type_of, types_of, bytes_of, padding, text_bytes, marshalled, all_marshalled, IsNumber, IsString, FitsAs, Each, Number, Text, Array, Struct, Entry, Variant, none, more}
 use Rattle.dbus_values.specs.Form.{Field, field_bytes, fields_bytes, IsKnown, IsUnknown, IsField, AreFields, put_value, put, header_from}
-use Rattle.dbus_values.proofs.Loops.{not_zero}
 use Rattle.dbus_values.proofs.Numbers.{IsBytes, IsBytes-rest, bind_ok, guard_ok, held_ok, ok_is, Takes, takes_then, zeros_takes, number_takes, sig_takes, byte_takes, length-padding, wide32}
 use Rattle.dbus_values.proofs.Leaves.{string_takes}
-use Rattle.dbus_values.proofs.Finding.{Row, row_found}
+use Rattle.dbus_values.proofs.Finding.{row_found}
 
 -- the value of a field behind its code
 record ValueRead (P : Tree → Type 0) (big : Bool) (at : ℕ) (bytes : List ℕ) (to : Spot) : Type 0 where

@@ -1,7 +1,7 @@
 -- Values of basic types that were marshalled are read again, and what is read was marshalled so.
-use Rattle.std.proofs.Common.{◌≡◌, ℕ, zero, suc, ◌+◌, ◌-◌, ◌<◌, ◌≤◌, ◌^◌, List, [], ◌∷◌, ◌++◌, length, get_or, Bool, true, false, cond, eqb, ltb, Result, Ok, Err, refl, sym, ap, subst, ◌∙◌, arith, append_assoc}
-use Rattle.std.specs.Int.{Width, w16, w32, w64, byte_len}
-use Rattle.std.proofs.lemmas.Bool.{ltb-false, ltb-true, le-ltb, lt-ltb, eqb-true}
+use Rattle.std.proofs.Common.{◌≡◌, ℕ, ◌+◌, ◌<◌, ◌^◌, List, [], ◌∷◌, ◌++◌, length, Bool, true, cond, ltb, Ok, refl, sym, ap, subst, ◌∙◌, arith, append_assoc}
+use Rattle.std.specs.Int.{Width, w16, w32, w64}
+use Rattle.std.proofs.lemmas.Bool.{ltb-true, lt-ltb}
 use Rattle.std.proofs.lemmas.List.{length-append}
 use Rattle.dbus_values.specs.declared.class.Class.{Class}
 use Rattle.dbus_values.specs.declared.class.Class.TheVariants as class
@@ -10,10 +10,10 @@ use Rattle.dbus_values.specs.declared.fault.FaultKind.TheVariants as fault
 use Rattle.dbus_values.specs.Reading.{◌>>=◌, bad, Spot, spot_at}
 use Rattle.dbus_values.specs.Parts.{Piece}
 use Rattle.dbus_values.specs.Parts as part
-use Rattle.dbus_values.specs.Types.{class_of, align_of, is_basic}
-use Rattle.dbus_values.specs.Basics.{gap, byte_at, number_at, text_at, signature_at, string_at, is_text, is_path, leaf_at}
+use Rattle.dbus_values.specs.Types.{class_of, align_of}
+use Rattle.dbus_values.specs.Basics.{gap, byte_at, number_at, text_at, string_at, is_path, leaf_at}
 use Rattle.dbus_values.specs.Trees.{Tree, type_of, pieces, bytes_of, padding, number_bytes, text_bytes, marshalled, IsNumber, IsString, IsBasic, FitsAs, Number, Text}
-use Rattle.dbus_values.proofs.Numbers.{IsBytes, bind_ok, held_ok, ok_is, Takes, wide16, wide32, wide64, number_again, number_takes, byte_takes, text_again, text_takes, sig_again, sig_takes}
+use Rattle.dbus_values.proofs.Numbers.{IsBytes, bind_ok, held_ok, ok_is, Takes, wide16, wide32, wide64, number_again, number_takes, text_again, text_takes, sig_again, sig_takes}
 
 pub number_leaf : (k : Class) (big : Bool) (c n at : ℕ) (rest : List ℕ) → IsNumber k n → leaf_at k big c at (number_bytes big k n ++ rest) ≡ Ok (part.Number c n, spot_at (at + length (number_bytes big k n)) rest)
 unfolding leaf_at byte_at

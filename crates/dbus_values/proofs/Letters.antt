@@ -1,6 +1,5 @@
 -- The one letter of a class that has one.
 use Rattle.std.proofs.Common.{◌≡◌, ℕ, Bool, true, false, cond, eqb, refl}
-use Rattle.std.specs.Prelude.{◌==◌, ◌||◌}
 use Rattle.std.proofs.lemmas.Bool.{eqb-true}
 use Rattle.dbus_values.specs.declared.class.Class.{Class}
 use Rattle.dbus_values.specs.declared.class.Class.TheVariants as class

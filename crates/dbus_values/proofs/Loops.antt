@@ -1,5 +1,5 @@
 -- Counting down, as a loop over a range does.
-use Rattle.std.proofs.Common.{◌≡◌, ℕ, zero, suc, ◌+◌, ◌-◌, ◌<◌, ◌≤◌, List, [], ◌∷◌, length, get_or, drop, Bool, true, false, cond, eqb, Ok, Err, Result, Option, None, Some, refl, sym, ◌∙◌, arith}
+use Rattle.std.proofs.Common.{◌≡◌, ℕ, zero, suc, ◌+◌, ◌-◌, ◌<◌, ◌≤◌, List, [], ◌∷◌, length, get_or, drop, Bool, true, false, cond, eqb, Ok, Result, Option, None, Some, refl, sym, ◌∙◌, arith}
 use Rattle.std.proofs.lemmas.Bool.Decides.{nat_tests}
 use Rattle.std.specs.Option.{option_and_then}
 use Rattle.dbus_values.specs.declared.class.Class.{Class}
@@ -12,7 +12,7 @@ use Rattle.dbus_values.specs.Reading.{Spot, bad, spot_at}
 use Rattle.dbus_values.specs.Basics.{zeros}
 use Rattle.dbus_values.specs.Reading.{◌>>=◌}
 use Rattle.dbus_values.specs.Opened.{Open}
-use Rattle.dbus_values.specs.Walk.{State, state, walk, walked, is_done, next_in}
+use Rattle.dbus_values.specs.Walk.{state, walk, walked, is_done, next_in}
 use Rattle.dbus_values.specs.Header.{Header, field_at, fields_at}
 
 pub down : (n i : ℕ) → i < n → n - i ≡ suc (n - (i + 1))

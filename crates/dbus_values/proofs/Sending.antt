@@ -1,22 +1,21 @@
 -- Messages that are written: the header fields, and the lengths that are filled in at the end.
-use Rattle.std.proofs.Common.{◌≡◌, ℕ, zero, suc, ◌+◌, ◌-◌, ◌<◌, ◌≤◌, ◌^◌, List, [], ◌∷◌, ◌++◌, length, get_or, take, drop, Bool, true, false, Option, None, Some, refl, ap, sym, subst, ◌∙◌, append_assoc, arith, length-append, inl, inr, ◌⊎◌, lit<, lit≤}
-use Rattle.std.proofs.lemmas.List.{append-nil, drop_all, take_at, drop_at}
+use Rattle.std.proofs.Common.{◌≡◌, ℕ, ◌+◌, ◌-◌, ◌<◌, ◌≤◌, ◌^◌, List, [], ◌∷◌, ◌++◌, length, take, drop, false, Option, Some, refl, ap, sym, subst, ◌∙◌, append_assoc, arith, length-append, inl, inr, ◌⊎◌, lit<, lit≤}
+use Rattle.std.proofs.lemmas.List.{append-nil, take_at, drop_at}
 use Rattle.std.specs.Int.{w32}
 use Rattle.dbus_values.specs.declared.value.Value.{Value}
 use Rattle.dbus_values.specs.Basics.{gap}
 use Rattle.dbus_values.specs.Trees.{Tree, Trees, types_of, padding, marshalled, all_marshalled, bytes_of, FitsAs, Each}
 use Rattle.dbus_values.specs.Trees as trees
 use Rattle.dbus_values.specs.Form.{Field, Message, field_bytes, fields_bytes, message_bytes, IsMessage, shown_of}
-use Rattle.dbus_values.specs.Written.{tree, list_trees, HasForm, AllForm, text_field, number_field, signature_field}
+use Rattle.dbus_values.specs.Written.{list_trees, AllForm, text_field, number_field, signature_field}
 use Rattle.dbus_values.proofs.Numbers.{length-padding, wide32}
-use Rattle.dbus_values.specs.declared.class.Class.TheVariants as class
 use Rattle.dbus_values.specs.Header.{Header, no_fields}
 use Rattle.dbus_values.specs.Next.{Whole, next_of}
-use Rattle.dbus_values.specs.Form.{IsField, IsKnown, IsUnknown, AreFields, put, WireForm}
+use Rattle.dbus_values.specs.Form.{IsKnown, IsUnknown, AreFields, put, WireForm}
 use Rattle.dbus_values.specs.declared.wire_out.WireOut.{WireOut}
-use Rattle.dbus_values.specs.Written.{fields_out, message_out}
+use Rattle.dbus_values.specs.Written.{message_out}
 use Rattle.dbus_values.proofs.Writing.{length-padded, each_forms, signature_short}
-use Rattle.dbus_values.proofs.Whole.{gap_16, read_again}
+use Rattle.dbus_values.proofs.Whole.{read_again}
 
 -- ---- header fields
 

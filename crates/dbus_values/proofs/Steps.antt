@@ -1,17 +1,16 @@
 -- What the steps of a walk compute, in the terms that the code tests.
-use Rattle.std.proofs.Common.{◌≡◌, ℕ, zero, suc, ◌+◌, ◌-◌, ◌<◌, ◌≤◌, List, [], ◌∷◌, length, get_or, drop, Bool, true, false, eqb, Result, Ok, Err, Option, None, Some, refl, sym, ap, ◌∙◌, arith}
-use Rattle.std.specs.Prelude.{◌==◌, ◌||◌, nat_lt, if◌then◌else◌}
-use Rattle.dbus_values.specs.declared.class.Class.{Class}
+use Rattle.std.proofs.Common.{◌≡◌, ℕ, zero, suc, ◌+◌, ◌-◌, ◌≤◌, List, [], ◌∷◌, length, get_or, drop, Bool, true, false, eqb, Result, Ok, Err, None, Some, refl, ap, arith}
+use Rattle.std.specs.Prelude.{◌==◌, if◌then◌else◌}
 use Rattle.dbus_values.specs.declared.fault.Fault.{Fault}
 use Rattle.dbus_values.specs.declared.fault.FaultKind.TheVariants as fault
-use Rattle.dbus_values.specs.Reading.{◌>>=◌, bad, Spot, spot_at}
+use Rattle.dbus_values.specs.Reading.{◌>>=◌, bad, spot_at}
 use Rattle.dbus_values.specs.Parts.{Piece}
 use Rattle.dbus_values.specs.Parts as part
 use Rattle.dbus_values.specs.Opened.{Open, innermost, outer}
 use Rattle.dbus_values.specs.Opened as open_part
 use Rattle.dbus_values.specs.Types.{class_of, align_of, is_basic}
 use Rattle.dbus_values.specs.Basics.{pad}
-use Rattle.dbus_values.specs.Walk.{State, state, resume, resumed, enter, enter_by, enter_struct, enter_entry, enter_item, in_members, in_key, in_closing, in_items, next_in, step, parts, Lasts, Walked, walked, walk, is_done, values_at, most_parts}
+use Rattle.dbus_values.specs.Walk.{State, state, resume, resumed, enter, enter_by, enter_struct, enter_entry, enter_item, in_members, in_key, in_closing, next_in, step, parts, Lasts, Walked, walked, walk, is_done, values_at, most_parts}
 use Rattle.dbus_values.specs.Messages.{body_at}
 
 pub resume_none : (fs : List Open) (types : List ℕ) (at : ℕ) → None ≡ innermost fs → resume fs types at ≡ Ok (fs, types)

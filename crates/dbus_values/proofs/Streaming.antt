@@ -1,11 +1,11 @@
 -- The messages of a stream are no others, and the clauses of the reader.
-use Rattle.std.proofs.Common.{◌≡◌, ℕ, ◌+◌, ◌-◌, ◌<◌, ◌≤◌, List, [], ◌∷◌, ◌++◌, length, get_or, take, drop, Result, Ok, Err, refl, sym, ap, subst, ◌∙◌, arith}
-use Rattle.std.proofs.lemmas.List.{take_at, drop_at, length-append, length-take}
+use Rattle.std.proofs.Common.{◌≡◌, ℕ, List, [], ◌∷◌, ◌++◌, length, take, drop, refl, sym, ap, subst, ◌∙◌}
+use Rattle.std.proofs.lemmas.List.{drop_at}
 use Rattle.dbus_values.specs.Next.{Seen, Answer, Whole, Partial, Bad, next_of}
-use Rattle.dbus_values.specs.Form.{Message, IsMessage, WireForm, message_bytes, shown_of}
-use Rattle.dbus_values.specs.Streams.{IfWhole, IsForm, NoneWhole, Stream, IsBytes}
+use Rattle.dbus_values.specs.Form.{message_bytes, shown_of}
+use Rattle.dbus_values.specs.Streams.{IfWhole, IsForm, Stream, IsBytes}
 use Rattle.dbus_values.proofs.Whole.{read_again}
-use Rattle.dbus_values.proofs.WholeFound.{MessageRead, whole_found, one_message}
+use Rattle.dbus_values.proofs.WholeFound.{whole_found, one_message}
 
 tails : (a x y : List ℕ) → a ++ x ≡ a ++ y → x ≡ y
 tails a x y same = sym (drop_at a x (length a) refl) ∙ ap (λ (z : List ℕ). drop (length a) z) same ∙ drop_at a y (length a) refl

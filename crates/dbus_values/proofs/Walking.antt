@@ -1,21 +1,21 @@
 -- A value that was marshalled is walked with its parts, whatever types and bytes follow it.
-use Rattle.std.proofs.Common.{◌≡◌, ℕ, zero, suc, ◌+◌, ◌-◌, ◌<◌, ◌≤◌, ◌^◌, List, [], ◌∷◌, ◌++◌, length, get_or, take, drop, Bool, true, false, cond, eqb, ltb, Result, Ok, Err, Option, None, Some, refl, sym, ap, subst, ◌∙◌, arith, append_assoc, inl, inr}
+use Rattle.std.proofs.Common.{◌≡◌, ℕ, zero, suc, ◌+◌, ◌-◌, ◌<◌, ◌≤◌, ◌^◌, List, [], ◌∷◌, ◌++◌, length, Bool, true, false, eqb, ltb, Result, Ok, Some, refl, sym, ap, subst, ◌∙◌, arith, append_assoc}
 use Rattle.std.specs.Int.{w32}
-use Rattle.std.proofs.lemmas.Bool.{ltb-false, ltb-true, le-ltb, lt-ltb, eqb-true}
+use Rattle.std.proofs.lemmas.Bool.{le-ltb, lt-ltb, eqb-true}
 use Rattle.std.proofs.lemmas.List.{take_at, drop_at, length-append, append-nil}
 use Rattle.dbus_values.specs.declared.class.Class.{Class}
 use Rattle.dbus_values.specs.declared.class.Class.TheVariants as class
 use Rattle.dbus_values.specs.declared.fault.Fault.{Fault}
-use Rattle.dbus_values.specs.Reading.{◌>>=◌, bad, Spot, spot_at}
+use Rattle.dbus_values.specs.Reading.{◌>>=◌, spot_at}
 use Rattle.dbus_values.specs.Parts.{Piece}
 use Rattle.dbus_values.specs.Parts as part
 use Rattle.dbus_values.specs.Opened.{Open}
 use Rattle.dbus_values.specs.Opened as open_part
 use Rattle.dbus_values.specs.Types.{class_of, align_of, is_basic}
 use Rattle.dbus_values.specs.Signatures.{after_item, after_type, is_signature, item_align}
-use Rattle.dbus_values.specs.Basics.{gap, zeros, pad, leaf_at}
-use Rattle.dbus_values.specs.Walk.{State, state, resume, resumed, enter, enter_by, enter_array, enter_struct, enter_variant, enter_entry, enter_item, in_items, in_members, in_key, in_closing, next_in, step, parts, Lasts}
-use Rattle.dbus_values.specs.Trees.{Tree, Trees, type_of, types_of, pieces, all_pieces, bytes_of, padding, number_bytes, text_bytes, marshalled, all_marshalled, IsNumber, IsString, IsBasic, IsItem, Each, HasOne, FitsAs, Fits, AllFit, Number, Text, Array, Struct, Entry, Variant, none, more}
+use Rattle.dbus_values.specs.Basics.{gap, zeros, leaf_at}
+use Rattle.dbus_values.specs.Walk.{State, state, resume, resumed, enter, enter_by, enter_array, enter_struct, enter_variant, enter_entry, enter_item, in_items, in_members, in_key, in_closing, step, parts}
+use Rattle.dbus_values.specs.Trees.{Tree, Trees, type_of, types_of, pieces, all_pieces, bytes_of, padding, number_bytes, text_bytes, marshalled, all_marshalled, IsNumber, IsString, IsBasic, IsItem, Each, HasOne, FitsAs, Fits, Number, Text, Array, Struct, Entry, Variant, none, more}
 use Rattle.dbus_values.proofs.Numbers.{length-padding, zeros_again, number_again, sig_again, wide16, wide32, wide64}
 use Rattle.dbus_values.proofs.Leaves.{number_leaf, string_leaf}
 use Rattle.dbus_values.proofs.Loops.{not_zero}

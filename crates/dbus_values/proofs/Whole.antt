@@ -1,20 +1,17 @@
 -- A message that was marshalled is read again, whatever follows it.
-use Rattle.std.proofs.Common.{◌≡◌, ℕ, zero, suc, ◌+◌, ◌-◌, ◌%◌, ◌<◌, ◌≤◌, ◌^◌, List, [], ◌∷◌, ◌++◌, length, get_or, take, drop, Bool, true, false, cond, eqb, ltb, Result, Ok, Err, Option, None, Some, refl, sym, ap, subst, ◌∙◌, arith, append_assoc}
+use Rattle.std.proofs.Common.{◌≡◌, ℕ, ◌+◌, ◌<◌, ◌≤◌, ◌^◌, List, [], ◌∷◌, ◌++◌, length, get_or, take, drop, Bool, true, false, eqb, ltb, Ok, refl, sym, ap, subst, ◌∙◌, arith, append_assoc}
 use Rattle.std.specs.Int.{w32}
-use Rattle.std.proofs.lemmas.Bool.{ltb-false, ltb-true, le-ltb, lt-ltb, eqb-true}
+use Rattle.std.proofs.lemmas.Bool.{le-ltb}
 use Rattle.std.proofs.lemmas.List.{take_at, drop_at, length-append, append-nil}
-use Rattle.dbus_values.specs.declared.fault.Fault.{Fault}
-use Rattle.dbus_values.specs.declared.fault.FaultKind.TheVariants as fault
-use Rattle.dbus_values.specs.declared.fault.Stop.{Stop}
-use Rattle.dbus_values.specs.Reading.{◌>>=◌, bad, Spot, spot_at}
+use Rattle.dbus_values.specs.Reading.{Spot, spot_at}
 use Rattle.dbus_values.specs.Parts.{Piece}
-use Rattle.dbus_values.specs.Basics.{gap, zeros, pad, number}
-use Rattle.dbus_values.specs.Walk.{State, state, parts, values_at, Walked, walked}
+use Rattle.dbus_values.specs.Basics.{gap}
+use Rattle.dbus_values.specs.Walk.{state, parts, values_at, walked}
 use Rattle.dbus_values.specs.Header.{Header, no_fields, fields_at, lacks}
 use Rattle.dbus_values.specs.Messages.{Start, u32_of, total, order_of, kind_of, flags_of, body_of, serial_of, fields_of, start_of, body_at, padded_body, signature_of, message_of}
-use Rattle.dbus_values.specs.Next.{Seen, shown, Answer, Whole, message_on, start_on, next_of}
-use Rattle.dbus_values.specs.Trees.{Tree, Trees, types_of, bytes_of, padding, all_marshalled, all_pieces, FitsAs, Each}
-use Rattle.dbus_values.specs.Form.{Message, fields_bytes, order_byte, message_bytes, header_of, header_from, AreFields, IsMessage, WireForm, shown_of}
+use Rattle.dbus_values.specs.Next.{Seen, shown, Whole, next_of}
+use Rattle.dbus_values.specs.Trees.{Trees, types_of, bytes_of, padding, all_marshalled, all_pieces, FitsAs, Each}
+use Rattle.dbus_values.specs.Form.{Message, fields_bytes, order_byte, message_bytes, header_of, IsMessage, shown_of}
 use Rattle.dbus_values.proofs.Loops.{not_zero}
 use Rattle.dbus_values.proofs.Numbers.{length-padding, zeros_again, wide32}
 use Rattle.dbus_values.proofs.Walking.{Walks, walks_parts, values_walk}

@@ -1,24 +1,23 @@
 -- A message that is read whole has the form of a message.
-use Rattle.std.proofs.Common.{◌≡◌, ℕ, zero, suc, ◌+◌, ◌-◌, ◌%◌, ◌<◌, ◌≤◌, ◌^◌, List, [], ◌∷◌, ◌++◌, length, get_or, take, drop, Bool, true, false, cond, eqb, ltb, Result, Ok, Err, Option, None, Some, refl, sym, ap, subst, ◌∙◌, arith, append_assoc}
+use Rattle.std.proofs.Common.{◌≡◌, ℕ, zero, suc, ◌+◌, ◌-◌, ◌<◌, ◌≤◌, ◌^◌, List, [], ◌∷◌, ◌++◌, length, get_or, take, drop, Bool, true, false, cond, eqb, ltb, Result, Ok, Err, refl, sym, ap, subst, ◌∙◌, arith, append_assoc}
 use Rattle.std.specs.Int.{w32}
-use Rattle.std.proofs.lemmas.Bool.{ltb-false, ltb-true, le-ltb, lt-ltb, eqb-true, eqb-false}
-use Rattle.std.proofs.lemmas.List.{take_at, drop_at, take-append-drop, length-append, length-take, length-drop, append-nil}
+use Rattle.std.proofs.lemmas.Bool.{ltb-false, eqb-true, eqb-false}
+use Rattle.std.proofs.lemmas.List.{take_at, take-append-drop, length-append, length-take, length-drop, append-nil}
 use Rattle.dbus_values.specs.declared.fault.Fault.{Fault}
 use Rattle.dbus_values.specs.declared.fault.FaultKind.TheVariants as fault
 use Rattle.dbus_values.specs.declared.fault.Stop.{Stop}
 use Rattle.dbus_values.specs.declared.fault.Stop.TheVariants as stop
-use Rattle.dbus_values.specs.Reading.{◌>>=◌, bad, Spot, spot_at}
+use Rattle.dbus_values.specs.Reading.{◌>>=◌, bad, Spot}
 use Rattle.dbus_values.specs.Basics.{gap, pad, number}
-use Rattle.dbus_values.specs.Walk.{values_at, Walked, most_parts}
+use Rattle.dbus_values.specs.Walk.{values_at, most_parts}
 use Rattle.dbus_values.specs.Header.{Header, no_fields, fields_at, lacks}
 use Rattle.dbus_values.specs.Messages.{Start, u32_of, total, wrong, order_of, kind_of, flags_of, body_of, serial_of, fields_of, start_of, body_at, padded_body, signature_of, message_of}
-use Rattle.dbus_values.specs.Next.{Seen, shown, Answer, Whole, Partial, Bad, message_on, start_on, next_of}
-use Rattle.dbus_values.specs.Trees.{Tree, Trees, types_of, bytes_of, padding, all_marshalled, FitsAs, Each}
-use Rattle.dbus_values.specs.Form.{Field, Message, fields_bytes, order_byte, message_bytes, header_of, header_from, AreFields, IsMessage, WireForm, shown_of}
-use Rattle.dbus_values.proofs.Loops.{not_zero}
+use Rattle.dbus_values.specs.Next.{Seen, Whole, Partial, Bad, message_on, start_on, next_of}
+use Rattle.dbus_values.specs.Trees.{Trees, types_of, bytes_of, padding, all_marshalled, FitsAs, Each}
+use Rattle.dbus_values.specs.Form.{Message, fields_bytes, order_byte, message_bytes, IsMessage, WireForm, shown_of}
 use Rattle.dbus_values.proofs.Numbers.{IsBytes, IsBytes-rest, IsBytes-take, IsBytes-drop, bind_ok, guard_ok, held_ok, ok_is, zeros_takes, length-padding, wide32}
-use Rattle.dbus_values.proofs.Finding.{Row, row_found}
-use Rattle.dbus_values.proofs.HeaderFound.{FieldsRead, fields_found}
+use Rattle.dbus_values.proofs.Finding.{row_found}
+use Rattle.dbus_values.proofs.HeaderFound.{fields_found}
 use Rattle.dbus_values.proofs.Whole.{first_bytes, length-first, gap_16, read_again}
 
 -- ---- the first 16 bytes

@@ -1,9 +1,9 @@
 -- Values that are written, one byte after the other.
 use mathlib.Core.Former.{Count}
-use Rattle.std.proofs.Common.{◌≡◌, ℕ, zero, suc, ◌+◌, ◌-◌, ◌<◌, ◌≤◌, ◌^◌, List, [], ◌∷◌, ◌++◌, length, get_or, take, drop, Bool, true, false, refl, ap, sym, subst, ◌∙◌, append_assoc, arith, length-append, drop-cons, add-one}
+use Rattle.std.proofs.Common.{◌≡◌, ℕ, zero, suc, ◌+◌, ◌-◌, ◌<◌, ◌≤◌, List, [], ◌∷◌, ◌++◌, length, get_or, take, drop, Bool, true, false, refl, ap, sym, subst, ◌∙◌, append_assoc, arith, length-append, drop-cons, add-one}
 use Rattle.std.proofs.lemmas.List.{append-nil, drop_all, take_at, drop_at}
 use Rattle.std.specs.Int.{w32}
-use Rattle.dbus_values.specs.declared.value.Value.{Value, Struct, Struct', Array, Array', Entry, Variant, Row_of-Value, end_of-Value, more_of-Value, items-the_row-Value, items_hidden-the_row-Value-0}
+use Rattle.dbus_values.specs.declared.value.Value.{Value, Struct, Struct', Array, Array', Row_of-Value, end_of-Value, more_of-Value, items-the_row-Value, items_hidden-the_row-Value-0}
 use Rattle.dbus_values.specs.declared.value.ValueList.{ValueList}
 use Rattle.std.specs.Prelude.{nat_le, ◌&&◌}
 use Rattle.std.proofs.lemmas.Bool.{leb-true}
@@ -12,7 +12,7 @@ use Rattle.dbus_values.specs.Trees.{Tree, Trees, none, more, type_of, types_of, 
 use Rattle.dbus_values.specs.Trees as trees
 use Rattle.std.proofs.Math.ListN.{set}
 use Rattle.std.specs.Prelude.{OnOk, Result, Ok, Err}
-use Rattle.dbus_values.specs.Signatures.{item_align, are_types, is_signature, after_type}
+use Rattle.dbus_values.specs.Signatures.{item_align, are_types, is_signature}
 use Rattle.dbus_values.specs.Trees.{FitsAs, Each}
 use Rattle.dbus_values.specs.Written.{tree, all_trees, list_trees, HasForm, AllForm}
 use Rattle.dbus_values.proofs.Numbers.{length-padding, wide32}

@@ -1,12 +1,12 @@
 -- Messages, apart from any reading: "Message Format" and "Header Fields".
-use Rattle.std.specs.Prelude.{◌≡◌, ℕ, ◌+◌, ◌<◌, ◌≤◌, ◌^◌, nat_lt, Bool, true, false, if◌then◌else◌, List, [], ◌∷◌, ◌++◌, length, take, Option, Some, None, ◌⊎◌}
+use Rattle.std.specs.Prelude.{◌≡◌, ℕ, ◌+◌, ◌<◌, ◌≤◌, ◌^◌, nat_lt, Bool, false, if◌then◌else◌, List, [], ◌∷◌, ◌++◌, length, ◌⊎◌}
 use Rattle.std.specs.Int.{w32}
-use Rattle.dbus_values.specs.Types.{class_of, align_of}
+use Rattle.dbus_values.specs.Types.{class_of}
 use Rattle.dbus_values.specs.Basics.{gap}
 use Rattle.dbus_values.specs.Header.{Header, no_fields, has, put_text, put_number, type_code, lacks}
 use Rattle.dbus_values.specs.Messages.{signature_of}
 use Rattle.dbus_values.specs.Next.{Seen}
-use Rattle.dbus_values.specs.Trees.{Tree, Trees, type_of, types_of, bytes_of, padding, marshalled, all_marshalled, all_pieces, IsString, FitsAs, Each, Number, Text, Array, Struct, Entry, Variant}
+use Rattle.dbus_values.specs.Trees.{Tree, Trees, types_of, bytes_of, padding, marshalled, all_marshalled, all_pieces, IsString, FitsAs, Each, Number, Text, Variant}
 
 -- a header field: its code, and the value of its variant
 pub record Field : Type 0 where

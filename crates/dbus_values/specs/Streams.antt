@@ -1,5 +1,5 @@
 -- Messages at the front of a stream of bytes, and streams of messages.
-use Rattle.std.specs.Prelude.{◌≡◌, ℕ, ◌<◌, List, [], ◌∷◌, ◌++◌, length, slice_index}
+use Rattle.std.specs.Prelude.{◌≡◌, ℕ, ◌<◌, List, [], ◌∷◌, ◌++◌, slice_index}
 use Rattle.dbus_values.specs.Next.{Seen, Answer, Whole, Partial, Bad}
 use Rattle.dbus_values.specs.Form.{Message, WireForm, shown_of}
 

@@ -1,6 +1,6 @@
 -- Values of the D-Bus type system as trees, apart from any reading: their types, how they are marshalled
 -- ("Marshaling (Wire Format)"), which of them have a form, and the parts that they are shown as.
-use Rattle.std.specs.Prelude.{◌≡◌, ℕ, zero, suc, ◌+◌, ◌-◌, ◌<◌, ◌^◌, Bool, true, false, if◌then◌else◌, List, [], ◌∷◌, ◌++◌, length, Option, Some, None}
+use Rattle.std.specs.Prelude.{◌≡◌, ℕ, zero, suc, ◌+◌, ◌<◌, ◌^◌, Bool, true, false, if◌then◌else◌, List, [], ◌∷◌, ◌++◌, length, Some}
 use Rattle.std.specs.Int.{Width, w16, w32, w64, to_be_bytes, to_le_bytes}
 use Rattle.dbus_values.specs.declared.class.Class.{Class}
 use Rattle.dbus_values.specs.declared.class.Class.TheVariants as class

@@ -1,13 +1,13 @@
 -- A walk over values: where they end, which parts they have, and which fault is the first. It stands at a
 -- place with the containers that are open there, the innermost first, the types that are left of the
 -- innermost, and the bytes from there on. A walk goes part by part.
-use Rattle.std.specs.Prelude.{ℕ, zero, suc, ◌+◌, ◌-◌, ◌==◌, ◌||◌, ◌&&◌, nat_lt, Bool, true, false, if◌then◌else◌, List, [], ◌∷◌, length, take, drop, Option, Some, None, Result, Ok, Err}
+use Rattle.std.specs.Prelude.{ℕ, zero, suc, ◌+◌, ◌-◌, ◌==◌, ◌&&◌, nat_lt, Bool, if◌then◌else◌, List, [], ◌∷◌, length, take, drop, Option, Some, None, Result, Ok, Err}
 use Rattle.std.specs.Int.{w32}
 use Rattle.dbus_values.specs.declared.class.Class.{Class}
 use Rattle.dbus_values.specs.declared.class.Class.TheVariants as class
 use Rattle.dbus_values.specs.declared.fault.Fault.{Fault}
 use Rattle.dbus_values.specs.declared.fault.FaultKind.TheVariants as fault
-use Rattle.dbus_values.specs.Reading.{◌>>=◌, bad, Spot, spot_at}
+use Rattle.dbus_values.specs.Reading.{◌>>=◌, bad, Spot}
 use Rattle.dbus_values.specs.Parts.{Piece}
 use Rattle.dbus_values.specs.Parts as part
 use Rattle.dbus_values.specs.Opened.{Open}

@@ -1,5 +1,5 @@
 -- The message that is written.
-use Rattle.std.specs.Prelude.{ℕ, ◌+◌, ◌≤◌, Bool, true, false, if◌then◌else◌, ◌==◌, List, [], ◌∷◌, ◌++◌, length, Option, Some, None}
+use Rattle.std.specs.Prelude.{ℕ, Bool, if◌then◌else◌, List, [], ◌∷◌, ◌++◌, Option, Some, None}
 use Rattle.dbus_values.specs.declared.value.Value.{Value, Bool as Truth, U32, U64, Text, Array', Struct', Entry', Variant', Row_of-Value, end_of-Value, more_of-Value}
 use Rattle.dbus_values.specs.declared.wire_out.WireOut.{WireOut}
 use Rattle.dbus_values.specs.Trees.{Tree, Trees, none, more, types_of, FitsAs, Each, marshalled}

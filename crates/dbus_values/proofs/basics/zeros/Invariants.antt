@@ -1,4 +1,4 @@
-use Rattle.std.proofs.Common.{◌≡◌, ◌-◌, ◌+◌, length}
+use Rattle.std.proofs.Common.{◌≡◌, ◌-◌}
 use Rattle.dbus_values.specs.Basics.{zeros}
 use Rattle.dbus_values.proofs.basics.zeros.Given as goal
 

@@ -1,6 +1,6 @@
-use Rattle.std.proofs.Common.{◌≡◌, ℕ, List, ◌∙◌, ◌++◌, ap, arith, rules, ◌-◌, ◌<◌, ◌^◌}
+use Rattle.std.proofs.Common.{ℕ, List, ◌∙◌, ◌++◌, ap, arith, rules, ◌-◌, ◌<◌, ◌^◌}
 use Rattle.dbus_values.specs.Written.{message_out}
-use Rattle.dbus_values.proofs.Sending.{start, body_forms, body_fits, sizes_fit, message_done, written_form, written_again, fields_fit, letters_fit}
+use Rattle.dbus_values.proofs.Sending.{start, body_forms, body_fits, sizes_fit, message_done, written_form, written_again}
 use Rattle.dbus_values.proofs.posting.write_message.Goals as goal
 
 pub put_values-requires-clause-forms : goal.put_values-requires-clause-forms

@@ -1,4 +1,4 @@
-use Rattle.std.proofs.Common.{◌≡◌, length, ℕ, ◌+◌, ◌-◌, ◌*◌}
+use Rattle.std.proofs.Common.{◌≡◌, length, ◌+◌, ◌-◌, ◌*◌}
 use Rattle.dbus_values.specs.Signatures.{members_end, type_end}
 use Rattle.dbus_values.proofs.signature.+types.Given as goal
 

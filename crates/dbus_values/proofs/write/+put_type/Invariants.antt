@@ -1,4 +1,4 @@
-use Rattle.std.proofs.Common.{◌≡◌, ◌++◌, length, drop}
+use Rattle.std.proofs.Common.{◌≡◌, ◌++◌, drop}
 use Rattle.dbus_values.specs.Trees.{types_of}
 use Rattle.dbus_values.specs.Written.{list_trees}
 use Rattle.dbus_values.proofs.write.+put_type.Given as goal

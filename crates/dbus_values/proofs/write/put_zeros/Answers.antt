@@ -1,4 +1,4 @@
-use Rattle.std.proofs.Common.{sym, ◌∙◌, ap, append_assoc}
+use Rattle.std.proofs.Common.{sym}
 use Rattle.std.proofs.lemmas.List.{append-nil}
 use Rattle.dbus_values.proofs.Writing.{padding_none, pushed}
 use Rattle.dbus_values.proofs.write.put_zeros.Goals as goal

@@ -1,4 +1,4 @@
-use Rattle.std.proofs.Common.{sym, arith, length, ◌≤◌, ◌≡◌, ◌-◌}
+use Rattle.std.proofs.Common.{arith, length, ◌≡◌, ◌-◌}
 use Rattle.dbus_values.proofs.Stack.{seen, seen_less, length-seen}
 use Rattle.dbus_values.proofs.frames.Frames.pop.Goals as goal
 

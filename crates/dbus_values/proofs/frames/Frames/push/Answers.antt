@@ -1,5 +1,5 @@
-use Rattle.std.proofs.Common.{◌≡◌, ◌<◌, sym, arith, length}
-use Rattle.std.proofs.Math.ListN.{set, length-set}
+use Rattle.std.proofs.Common.{◌<◌, arith, length}
+use Rattle.std.proofs.Math.ListN.{length-set}
 use Rattle.dbus_values.proofs.Stack.{length-seen, seen, seen_set, within_set}
 use Rattle.dbus_values.proofs.frames.Frames.push.Goals as goal
 

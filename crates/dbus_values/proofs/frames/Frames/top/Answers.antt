@@ -1,4 +1,4 @@
-use Rattle.std.proofs.Common.{sym, arith}
+use Rattle.std.proofs.Common.{arith}
 use Rattle.dbus_values.proofs.Stack.{seen_top}
 use Rattle.dbus_values.proofs.frames.Frames.top.Goals as goal
 
