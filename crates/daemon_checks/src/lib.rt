@@ -8,3 +8,5 @@ mod faults;
 mod rows;
 #[cfg(test)]
 mod runs;
+#[cfg(test)]
+mod statuses;

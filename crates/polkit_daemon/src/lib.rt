@@ -6,8 +6,6 @@ mod counts;
 mod refused;
 mod replaying;
 mod status;
-#[cfg(test)]
-mod tests;
 mod top;
 mod written;
 
