@@ -1,20 +1,24 @@
 -- Messages that are written: the header fields, and the lengths that are filled in at the end.
-use Rattle.std.proofs.Common.{◌≡◌, ℕ, ◌+◌, ◌-◌, ◌<◌, ◌≤◌, ◌^◌, List, [], ◌∷◌, ◌++◌, length, take, drop, false, Option, Some, refl, ap, sym, subst, ◌∙◌, append_assoc, arith, length-append, inl, inr, ◌⊎◌, lit<, lit≤}
+use Rattle.std.proofs.Common.{◌≡◌, ℕ, ◌+◌, ◌-◌, ◌<◌, ◌≤◌, ◌^◌, List, [], ◌∷◌, ◌++◌, length, take, drop, true, false, Option, Some, refl, ap, sym, subst, ◌∙◌, append_assoc, arith, length-append, inl, inr, ◌⊎◌, lit<, lit≤}
 use Rattle.std.proofs.lemmas.List.{append-nil, take_at, drop_at}
 use Rattle.std.specs.Int.{w32}
-use Rattle.dbus_values.specs.declared.value.Value.{Value}
-use Rattle.dbus_values.specs.Basics.{gap}
+use Rattle.dbus_values.specs.declared.value.Value.{Value, Bool as Truth, Struct, Array}
+use Rattle.dbus_values.specs.declared.value.ValueList.{ValueList}
+use Rattle.dbus_values.specs.Basics.{gap, is_text}
+use Rattle.std.specs.Str.{is_utf8, chars}
+use Rattle.std.specs.Char.{encode_utf8}
+use Rattle.dbus_values.specs.Signatures.{type_end, members_end, are_types}
 use Rattle.dbus_values.specs.Trees.{Tree, Trees, types_of, padding, marshalled, all_marshalled, bytes_of, FitsAs, Each}
 use Rattle.dbus_values.specs.Trees as trees
 use Rattle.dbus_values.specs.Form.{Field, Message, field_bytes, fields_bytes, message_bytes, IsMessage, shown_of}
-use Rattle.dbus_values.specs.Written.{list_trees, AllForm, text_field, number_field, signature_field}
+use Rattle.dbus_values.specs.Written.{tree, list_trees, AllForm, text_field, number_field, signature_field}
 use Rattle.dbus_values.proofs.Numbers.{length-padding, wide32}
 use Rattle.dbus_values.specs.Header.{Header, no_fields}
 use Rattle.dbus_values.specs.Next.{Whole, next_of}
 use Rattle.dbus_values.specs.Form.{IsKnown, IsUnknown, AreFields, put, WireForm}
 use Rattle.dbus_values.specs.declared.wire_out.WireOut.{WireOut}
 use Rattle.dbus_values.specs.Written.{message_out}
-use Rattle.dbus_values.proofs.Writing.{length-padded, each_forms, signature_short}
+use Rattle.dbus_values.proofs.Writing.{length-padded, each_forms, signature_short, tree_struct, tree_array}
 use Rattle.dbus_values.proofs.Whole.{read_again}
 
 -- ---- header fields
@@ -236,5 +240,56 @@ empty_return = record {
   needs = refl;
   signature = refl;
   body = tt;
+  short = lit≤ tt;
+}
+
+-- the body of an answer: yes, no challenge, and one detail
+abbrev pub answer_trees : List ℕ → Tree → Trees
+answer_trees item detail = trees.more (trees.Struct (trees.more (trees.Number 98 1) (trees.more (trees.Number 98 0) (trees.more (trees.Array item (trees.more detail trees.none)) trees.none)))) trees.none
+
+pub answer_made : (item sig : List ℕ) (entry : Value) (detail : Tree) (details members : ValueList) (d m0 m1 m2 b0 b : List Value) → d ≡ [] → details.items.items ≡ d ++ entry ∷ [] → tree entry ≡ detail → sig ≡ item
+    → m0 ≡ [] → m1 ≡ m0 ++ Truth true ∷ [] → m2 ≡ m1 ++ Truth false ∷ [] → members.items.items ≡ m2 ++ Array sig details ∷ [] → b0 ≡ [] → b ≡ b0 ++ Struct members ∷ [] → list_trees b ≡ answer_trees item detail
+answer_made item sig entry detail details members d m0 m1 m2 b0 b d-is details-is entry-is sig-is m0-is m1-is m2-is members-is b0-is b-is =
+    let held : details.items.items ≡ entry ∷ [] = details-is ∙ ap (λ (x : List Value). x ++ entry ∷ []) d-is in
+    let array : tree (Array sig details) ≡ trees.Array item (trees.more detail trees.none) = tree_array sig details ∙ ap (λ (vs : List Value). trees.Array sig (list_trees vs)) held ∙ ap (λ (t : Tree). trees.Array sig (trees.more t trees.none)) entry-is ∙ ap (λ (s : List ℕ). trees.Array s (trees.more detail trees.none)) sig-is in
+    let two : m2 ≡ Truth true ∷ Truth false ∷ [] = m2-is ∙ ap (λ (x : List Value). x ++ Truth false ∷ []) (m1-is ∙ ap (λ (x : List Value). x ++ Truth true ∷ []) m0-is) in
+    let three : members.items.items ≡ Truth true ∷ Truth false ∷ Array sig details ∷ [] = members-is ∙ ap (λ (x : List Value). x ++ Array sig details ∷ []) two in
+    let struct : tree (Struct members) ≡ trees.Struct (trees.more (trees.Number 98 1) (trees.more (trees.Number 98 0) (trees.more (trees.Array item (trees.more detail trees.none)) trees.none))) = tree_struct members ∙ ap (λ (vs : List Value). trees.Struct (list_trees vs)) three
+    ∙ ap (λ (t : Tree). trees.Struct (trees.more (trees.Number 98 1) (trees.more (trees.Number 98 0) (trees.more t trees.none)))) array in
+    ap list_trees (b-is ∙ ap (λ (x : List Value). x ++ Struct members ∷ []) b0-is) ∙ ap (λ (t : Tree). trees.more t trees.none) struct
+
+-- a return with this body
+abbrev pub answer_with : Trees → Message
+answer_with ts = record { kind = 2; flags = 1; serial = 1; fields = number_field (Some 1) ++ signature_field (types_of ts); body = ts }
+
+-- polkit.decided-by
+abbrev pub decided_by : List ℕ
+decided_by = 112 ∷ 111 ∷ 108 ∷ 107 ∷ 105 ∷ 116 ∷ 46 ∷ 100 ∷ 101 ∷ 99 ∷ 105 ∷ 100 ∷ 101 ∷ 100 ∷ 45 ∷ 98 ∷ 121 ∷ []
+
+decided_by_text : is_text decided_by ≡ true
+unfolding is_utf8 chars encode_utf8
+decided_by_text = refl
+
+-- default:any
+abbrev pub default_any : List ℕ
+default_any = 100 ∷ 101 ∷ 102 ∷ 97 ∷ 117 ∷ 108 ∷ 116 ∷ 58 ∷ 97 ∷ 110 ∷ 121 ∷ []
+
+default_any_text : is_text default_any ≡ true
+unfolding is_utf8 chars encode_utf8
+default_any_text = refl
+
+abbrev pub worked_detail : Tree
+worked_detail = trees.Entry (trees.Text 115 decided_by) (trees.Text 115 default_any)
+
+pub answer_is : IsMessage false (answer_with (answer_trees (123 ∷ 115 ∷ 115 ∷ 125 ∷ []) worked_detail))
+unfolding padding type_end members_end are_types FitsAs
+answer_is = record {
+  kind = (lit< tt, lit< tt);
+  flags = lit< tt;
+  serial = (lit< tt, lit< tt);
+  fields = (record { low = lit< tt; high = lit< tt; once = refl; value = inl (lit< tt, (refl, refl, lit< tt, λ _. lit< tt)) }, (record { low = lit< tt; high = lit< tt; once = refl; value = inl (lit< tt, (refl, refl)) }, tt));
+  needs = refl;
+  signature = refl;
+  body = ((tt, (lit< tt, (lit< tt, ((λ types. refl, ((refl, (tt, decided_by_text, default_any_text)), tt)), tt)))), tt);
   short = lit≤ tt;
 }

@@ -2,7 +2,7 @@
 //!
 //! [`next_message`] reads the message at the front of a stream of bytes, in either byte order,
 //! without taking memory: what it gives borrows from the bytes. [`WireMessage::body`] gives the
-//! parts of a message's body one by one.
+//! parts of a message's body one by one. [`write_message`] writes a [`WireOut`], little-endian.
 #![tactic(auto)]
 
 mod basics;

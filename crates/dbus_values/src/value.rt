@@ -51,6 +51,13 @@ impl ValueList {
         self.items.len()
     }
 
+    /// The value at a place counted from 0, and `None` exactly past the end.
+    pub fn get(&self, i: usize) -> Option<&Value>
+        ensures item { option_copied result ≡ slice_get self.now.items.items i }
+    {
+        self.items.get(i)
+    }
+
     /// Puts a value at the end. A refusal leaves the list as it was.
     pub fn try_push(&mut self, item: Value) -> Result<(), NoMemory>
         ensures ok { OnOk result (self.new.items.items ≡ self.old.items.items ++ item ∷ []) }
