@@ -21,6 +21,12 @@ pub record Given : Type 0 where
   pub salt : ℕ
   pub what : What
 
+-- an event that a step takes: a load and a collecting are handed in by calls of their own
+abbrev pub IsStepped : Event → Type 0
+IsStepped (Load load) = ⊥
+IsStepped (Collect of) = ⊥
+IsStepped event = ⊤
+
 -- an event that is handed in
 abbrev pub event_given : ℕ → ℕ → ℕ → Event → Given
 event_given caller moment salt event = record { caller = caller; moment = moment; salt = salt; what = What.Of event }

@@ -1,0 +1,6 @@
+pub mod Stepping
+pub mod TooLarge
+pub mod Knowing
+pub mod Ends
+pub mod Changes
+pub mod Endings

@@ -1,0 +1,6 @@
+use Rattle.std.proofs.Common.{◌∙◌}
+use Rattle.journal_state.proofs.Knowing.{facts_are}
+use Rattle.journal_state.proofs.subjects.facts_of.Goals as goal
+
+pub returns : goal.returns
+returns c = record { facts = λ past told world. c.facts.ensures.facts ∙ facts_are past c.args.world.now c.args.subject.now c.announced.result (c.announced.ensures.process past told) world }

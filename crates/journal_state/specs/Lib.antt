@@ -1,0 +1,4 @@
+pub mod Connected
+pub mod Ended
+pub mod Closed
+pub mod States

@@ -1,0 +1,200 @@
+// Who connected, and what each connection announced.
+ghost use Rattle.std.specs.Prelude.{◌≡◌, ◌∷◌, [], List, Option, OnOk, OnErr, option_and_then};
+ghost use Rattle.authority_model.specs.declared.load.Loaded.{Loaded};
+ghost use Rattle.authority_model.specs.declared.journal.Item.{Item};
+ghost use Rattle.authority_model.specs.Items.{world_of};
+ghost use Rattle.authority_model.specs.Lists.{when};
+ghost use Rattle.authority_model.specs.Peers.{uid_of, live, announced, is_root, may_for, uid_given, is_depart, call_in, process_named};
+ghost use Rattle.journal_state.specs.Connected.{Tells, row_of, row_after, may_announce};
+
+use authority_model::{Call, Entry, Event, World};
+use journal_search::process;
+use pk_types::NoMemory;
+use std::alloc::Global;
+use std::collections::BTreeMap;
+use std::marker::Model;
+
+/// What is known of a caller that connected.
+#[derive(Clone, Copy, Debug, PartialEq, Eq)]
+pub struct Connection {
+    /// The uid of its first Connect.
+    pub uid: u32,
+    /// Whether it departed after that.
+    pub departed: bool,
+    /// The pid and the start of the process that it announced last, where that was accepted.
+    pub announced: Option<(u32, u64)>,
+}
+
+/// The callers that ever connected, by rising number, with what is known of each.
+///
+/// A caller that departed stays, so that a second Connect of it makes no connection.
+#[derive(Drop)]
+pub struct Connections {
+    rows: BTreeMap<u32, Connection>,
+}
+
+impl Model for Connections {
+    ghost use Rattle.std.specs.Prelude.{List, ℕ};
+    ghost use Rattle.journal_state.specs.declared.connections.Connection.{Connection};
+
+    ghost Value = { List (ℕ × Connection) };
+
+    ghost view = { λ a. a.rows.entries };
+}
+
+/// The uid of a Connect.
+fn uid_in(event: &Event) -> Option<u32>
+    ensures uid { result ≡ uid_given event.now }
+{
+    match event {
+        Event::Connect { uid } => Some(*uid),
+        _ => None,
+    }
+}
+
+/// The process that a call announces.
+fn process_in(call: &Call) -> Option<(u32, u64)>
+    ensures process { result ≡ process_named call.now }
+{
+    match call {
+        Call::Announce { pid, start } => Some((*pid, *start)),
+        _ => None,
+    }
+}
+
+/// The process that an event announces.
+fn process_of(event: &Event) -> Option<(u32, u64)>
+    ensures process { result ≡ option_and_then process_named (call_in event.now) }
+{
+    match event {
+        Event::Call { call, .. } => process_in(call),
+        _ => None,
+    }
+}
+
+/// Whether a caller of this row may announce a process.
+fn may_announce(world: &World, row: Connection, pid: u32, start: u64) -> bool
+    ensures may { result ≡ may_announce world.now row (pid, start) }
+{
+    if row.departed {
+        return false;
+    }
+    match process(world, pid, start) {
+        Some(found) => row.uid == found.uid || row.uid == 0,
+        None => false,
+    }
+}
+
+/// The process that an event of a caller of this row announces, where that is accepted.
+fn accepted(world: &World, row: Connection, event: &Event) -> Option<(u32, u64)>
+    ensures process { result ≡ option_and_then (λ p. when (may_announce world.now row p) p) (option_and_then process_named (call_in event.now)) }
+{
+    let (pid, start) = process_of(event)?;
+    if may_announce(world, row, pid, start) {
+        Some((pid, start))
+    } else {
+        None
+    }
+}
+
+/// The row of a caller after its own event.
+fn row_after(world: &World, row: Option<Connection>, event: &Event) -> Option<Connection>
+    ensures row { result ≡ row_after world.now row (uid_given event.now) (is_depart event.now) (option_and_then process_named (call_in event.now)) }
+{
+    match row {
+        None => match uid_in(event) {
+            Some(uid) => Some(Connection {
+                uid,
+                departed: false,
+                announced: None,
+            }),
+            None => None,
+        },
+        Some(row) => Some(Connection {
+            uid: row.uid,
+            departed: row.departed || matches!(event, Event::Depart),
+            announced: accepted(world, row, event).or(row.announced),
+        }),
+    }
+}
+
+impl Connections {
+    /// The connections of the empty history. It takes no memory.
+    pub fn start(alloc: Global) -> Connections
+        ensures empty { Tells result [] }
+    {
+        Connections {
+            rows: BTreeMap::new(alloc),
+        }
+    }
+
+    /// What is known of a caller, and `None` exactly where it never connected.
+    pub fn row(&self, caller: u32) -> Option<Connection>
+        ensures row { result ≡ row_of self.now caller }
+    {
+        self.rows.get(&caller).copied()
+    }
+
+    /// The uid of a caller: that of its first Connect.
+    pub fn uid(&self, caller: u32) -> Option<u32>
+        ensures uid { (past : List Item) → Tells self.now past → result ≡ uid_of past caller }
+    {
+        match self.row(caller) {
+            Some(row) => Some(row.uid),
+            None => None,
+        }
+    }
+
+    /// Whether a caller is live: it connected, and has not departed since.
+    pub fn is_live(&self, caller: u32) -> bool
+        ensures live { (past : List Item) → Tells self.now past → result ≡ live past caller }
+    {
+        match self.row(caller) {
+            Some(row) => !row.departed,
+            None => false,
+        }
+    }
+
+    /// Whether a caller's uid is this one, or 0.
+    pub fn speaks_for(&self, caller: u32, uid: u32) -> bool
+        ensures may { (past : List Item) → Tells self.now past → result ≡ may_for past caller uid }
+    {
+        match self.row(caller) {
+            Some(row) => row.uid == uid || row.uid == 0,
+            None => false,
+        }
+    }
+
+    /// Whether a caller's uid is 0.
+    pub fn is_root(&self, caller: u32) -> bool
+        ensures root { (past : List Item) → Tells self.now past → result ≡ is_root past caller }
+    {
+        match self.row(caller) {
+            Some(row) => row.uid == 0,
+            None => false,
+        }
+    }
+
+    /// The pid and the start of the process that a live caller announced.
+    pub fn announced(&self, caller: u32) -> Option<(u32, u64)>
+        ensures announced { (past : List Item) → Tells self.now past → result ≡ announced past caller }
+    {
+        match self.row(caller) {
+            Some(row) => { if row.departed { None } else { row.announced } }
+            None => None,
+        }
+    }
+
+    /// Carries the connections on by one entry, in the world that was in force before it.
+    ///
+    /// A refusal leaves them as they were.
+    pub fn after(&mut self, world: &World, entry: &Entry) -> Result<(), NoMemory>
+        ensures ok { (past : List Item) (loaded : Option Loaded) → Tells self.old past → world.now ≡ world_of past → OnOk result (Tells self.new (record { entry = entry.now; loaded = loaded } ∷ past)) }
+        ensures err { OnErr result (self.new ≡ self.old) }
+    {
+        if let Some(row) = row_after(world, self.row(entry.caller), &entry.event) {
+            self.rows.insert(entry.caller, row)?;
+        }
+        Ok(())
+    }
+}

@@ -1,0 +1,40 @@
+// What is known of a subject after a history.
+ghost use Rattle.std.specs.Prelude.{◌≡◌, List};
+ghost use Rattle.std.specs.Option.{option_map};
+ghost use Rattle.authority_model.specs.declared.journal.Item.{Item};
+ghost use Rattle.authority_model.specs.Items.{world_of};
+ghost use Rattle.authority_model.specs.Facts.{facts_seen};
+ghost use Rattle.authority_model.specs.Subjects.{facts as facts_after};
+ghost use Rattle.journal_state.specs.Connected.{Tells, announced_by};
+
+use crate::connections::Connections;
+use crate::names::caller_of;
+use authority_model::{Facts, World};
+use journal_search::facts;
+use pk_types::Subject;
+
+/// The process that the connection of a bus name announced.
+fn announced(connections: &Connections, subject: &Subject) -> Option<(u32, u64)>
+    ensures process { (past : List Item) → Tells connections.now past → result ≡ announced_by past subject.now }
+{
+    match subject {
+        Subject::BusName { name } => match caller_of(name) {
+            Some(caller) => connections.announced(caller),
+            None => None,
+        },
+        _ => None,
+    }
+}
+
+/// What is known of a subject, by the connections and the world after a history.
+///
+/// `None` exactly where nothing is known.
+pub fn facts_of<'a>(
+    connections: &Connections,
+    world: &'a World,
+    subject: &Subject,
+) -> Option<Facts<'a>>
+    ensures facts { (past : List Item) → Tells connections.now past → world.now ≡ world_of past → option_map facts_seen result ≡ facts_after past subject.now }
+{
+    facts(world, announced(connections, subject), subject)
+}
