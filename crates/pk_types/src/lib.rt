@@ -7,6 +7,7 @@
 mod action_id;
 mod copies;
 mod list;
+mod number;
 mod reserved;
 #[cfg(test)]
 mod tests;
@@ -16,8 +17,9 @@ mod values;
 pub use action_id::{ActionId, IdFault};
 pub use copies::TryCopy;
 pub use list::{List, NoMemory};
+pub use number::number_up_to;
 pub use reserved::Reserved;
-pub use text::{Text, TextFault};
+pub use text::{Text, TextFault, bad_byte};
 pub use values::{Category, Identity, Implicit, Pair, Subject};
 
 /// A list of texts.

@@ -1,5 +1,7 @@
 // Each public call once, with ample memory, and the rows of texts and ids.
-use crate::{ActionId, IdFault, Implicit, List, NoMemory, Reserved, Text, TextFault};
+use crate::{
+    ActionId, IdFault, Implicit, List, NoMemory, Reserved, Text, TextFault, bad_byte, number_up_to,
+};
 use std::test::Fail;
 
 fn text<R: AllocGlobal>(rt: &R, bytes: &[u8]) -> Result<Text, TextFault> {
@@ -31,6 +33,30 @@ fn texts_are_utf8_without_zero(rt: HostRuntime) -> Result<(), Fail> {
     assert!(rt; text(&rt, &[97; 65535])?.bytes().len() == 65535);
     assert!(rt; Text::new(rt.alloc()).bytes().is_empty());
     Ok(())
+}
+
+#[test]
+fn bytes_that_are_no_text_have_a_place(rt: HostRuntime) {
+    assert!(rt; bad_byte(b"caf\xc3\xa9").is_none());
+    assert!(rt; bad_byte(b"ab\xc3\x28") == Some(2));
+    assert!(rt; bad_byte(b"a\x00\xff") == Some(1));
+}
+
+#[test]
+fn numbers_have_no_sign_and_no_zero_in_front(rt: HostRuntime) {
+    let rows: [(&[u8], u64, Option<u64>); 8] = [
+        (b"0", 0, Some(0)),
+        (b"255", 255, Some(255)),
+        (b"256", 255, None),
+        (b"18446744073709551615", u64::MAX, Some(u64::MAX)),
+        (b"18446744073709551616", u64::MAX, None),
+        (b"", 9, None),
+        (b"07", 9, None),
+        (b"+7", 9, None),
+    ];
+    for (word, greatest, want) in rows {
+        assert!(rt; number_up_to(word, greatest) == want);
+    }
 }
 
 #[test]

@@ -60,8 +60,9 @@ fn zero_at(bytes: &[u8]) -> Option<usize>
     bytes.iter().position(|b| *b == 0)
 }
 
-/// Where the first byte stands that is 0 or that ends the bytes as UTF-8.
-fn bad_byte(bytes: &[u8]) -> Option<usize>
+/// Where the first byte stands that is 0 or that ends the bytes as UTF-8, and `None` exactly where
+/// there is none. It takes no memory.
+pub fn bad_byte(bytes: &[u8]) -> Option<usize>
     ensures first { result ≡ text_bad bytes.now }
 {
     let valid = valid_len(bytes);
