@@ -9,7 +9,8 @@ use crate::fault::{KeyFault, KeyFaultKind};
 use crate::grouping::{GroupMap, Grouping, group_list};
 use crate::groups::Groups;
 use crate::line::line_says;
-use crate::slices::{bad_byte, line_text, next_line, trimmed};
+use crate::slices::{line_text, next_line, trimmed};
+use pk_types::bad_byte;
 use std::alloc::Global;
 
 /// The greatest number of bytes of a key file.

@@ -1,14 +1,12 @@
 // Parts of bytes: trimmed, without an end, a line, a text.
-ghost use Rattle.std.specs.Prelude.{◌≡◌, ◌+◌, ◌<◌, ◌≤◌, ◌==◌, [], ◌∷◌, length, position, IfNone, IfOk, IfSome};
-ghost use Rattle.std.specs.Str.Lossy.{utf8_valid_len};
-ghost use Rattle.pk_types.specs.Text.{IsText, text_bad};
+ghost use Rattle.std.specs.Prelude.{◌≡◌, ◌+◌, ◌<◌, ◌≤◌, ◌==◌, [], ◌∷◌, length, IfNone, IfOk, IfSome};
+ghost use Rattle.pk_types.specs.Text.{IsText};
 ghost use Rattle.keyfile_text.specs.Bytes.{is_blank_of, trim_front, trim_back, trim, IsClean};
 ghost use Rattle.keyfile_text.specs.Lines.{raw_lines, without_end};
 
 use byte_pieces::cut;
 use pk_types::{NoMemory, Text, TextFault};
 use std::alloc::Global;
-use std::str;
 
 fn is_blank(b: u8) -> bool
     ensures blank { result ≡ is_blank_of b }
@@ -84,39 +82,6 @@ pub fn next_line(bytes: &[u8]) -> Option<(&[u8], &[u8])>
     match cut(bytes, b'\n') {
         Some((front, _)) => Some(bytes.split_at(front.len() + 1)),
         None => Some(bytes.split_at(bytes.len())),
-    }
-}
-
-fn valid_len(bytes: &[u8]) -> usize
-    ensures value { result ≡ utf8_valid_len bytes.now }
-    ensures within { result ≤ length bytes.now }
-{
-    match str::from_utf8(bytes) {
-        Ok(_) => bytes.len(),
-        Err(e) => e.valid_up_to(),
-    }
-}
-
-fn zero_at(bytes: &[u8]) -> Option<usize>
-    ensures first { result ≡ position (λ b. b == 0) bytes.now }
-{
-    bytes.iter().position(|b| *b == 0)
-}
-
-/// Where the first byte stands that is 0 or that ends the bytes as UTF-8.
-pub fn bad_byte(bytes: &[u8]) -> Option<usize>
-    ensures first { result ≡ text_bad bytes.now }
-{
-    let valid = valid_len(bytes);
-    match zero_at(&bytes[..valid]) {
-        Some(at) => Some(at),
-        None => {
-            if valid < bytes.len() {
-                Some(valid)
-            } else {
-                None
-            }
-        }
     }
 }
 
