@@ -1,50 +1,97 @@
 -- A sound authority after one more entry.
-use Rattle.std.proofs.Common.{◌≡◌, ℕ, ◌≤◌, ◌^◌, max, false, List, [], ◌∷◌, ◌++◌, refl, ap, sym, ◌∙◌, subst, None, arith}
+use Rattle.std.proofs.Common.{◌≡◌, ℕ, suc, ◌+◌, ◌≤◌, ◌<◌, ◌^◌, max, Bool, true, false, List, [], ◌∷◌, ◌++◌, refl, ap, sym, ◌∙◌, subst, Some, None, length, arith}
+use Rattle.std.specs.Prelude.{slice_get, take}
+use Rattle.std.proofs.lemmas.List.{length-append, get_or_push}
+use Rattle.std.proofs.lemmas.Option.{slice_get-get_or}
 use Rattle.authority_model.specs.declared.event.Event.{Event}
-use Rattle.authority_model.specs.declared.event.Event.TheVariants.{Connect, Call as Called}
+use Rattle.authority_model.specs.declared.event.Event.TheVariants.{Connect, Call as Called, Returned, AgentError, Passed, Depart, Load, LoadFailed, Stop, Collect}
 use Rattle.authority_model.specs.declared.journal.Entry.{Entry}
 use Rattle.authority_model.specs.declared.journal.History.{History}
 use Rattle.authority_model.specs.declared.journal.Item.{Item}
 use Rattle.authority_model.specs.declared.load.Loaded.{Loaded}
 use Rattle.authority_model.specs.declared.message.Output.{Output}
-use Rattle.authority_model.specs.Items.{items_of, is_load}
+use Rattle.authority_model.specs.Items.{items_of, is_load, loaded_of}
 use Rattle.authority_model.specs.Answers.{answers, loads}
 use Rattle.authority_model.specs.Legal.{Legal, Follows, IsNumbered, IsCollected, last_moment}
-use Rattle.authority_model.specs.Given.{event_given, item_of, next, Grows}
-use Rattle.authority_model.specs.Built.{IsBuiltEvent}
-use Rattle.authority_model.proofs.Pairing.{items_other}
-use Rattle.authority_core.specs.Sound.{IsSound, IsBuilt, IsBuiltItem}
+use Rattle.authority_model.specs.Given.{IsStepped, event_given, load_given, item_of, next, Grows}
+use Rattle.authority_model.specs.Small.{IsShort}
+use Rattle.authority_model.proofs.Pairing.{items_other, items_load, load_count, count_one}
+use Rattle.journal_state.specs.declared.state.State.{State}
+use Rattle.journal_state.specs.States.{IsStateOf}
+use Rattle.authority_core.specs.Sound.{IsSound}
 
--- a built event is no load
-other : (event : Event) → IsBuiltEvent event → is_load event ≡ false
-other (Connect uid) b = refl
-other (Called serial quiet call) b = refl
-other _ b = absurd b
+-- what a step takes is no load
+other : (event : Event) → IsStepped event → is_load event ≡ false
+other (Load load) s = absurd s
+other (Connect uid) s = refl
+other (Called serial quiet call) s = refl
+other (Returned serial) s = refl
+other (AgentError serial name) s = refl
+other Passed s = refl
+other Depart s = refl
+other (LoadFailed code) s = refl
+other Stop s = refl
+other (Collect of) s = absurd s
 
-numbered : (n : ℕ) (event : Event) → IsBuiltEvent event → IsNumbered n event None
-numbered n (Connect uid) b = refl
-numbered n (Called serial quiet call) b = refl
-numbered n _ b = absurd b
+numbered : (n : ℕ) (event : Event) → IsStepped event → IsNumbered n event None
+numbered n (Load load) s = absurd s
+numbered n (Connect uid) s = refl
+numbered n (Called serial quiet call) s = refl
+numbered n (Returned serial) s = refl
+numbered n (AgentError serial name) s = refl
+numbered n Passed s = refl
+numbered n Depart s = refl
+numbered n (LoadFailed code) s = refl
+numbered n Stop s = refl
+numbered n (Collect of) s = absurd s
 
-collected : (t : ℕ) (e : Entry) (event : Event) → IsBuiltEvent event → IsCollected t e event
-collected t e (Connect uid) b = tt
-collected t e (Called serial quiet call) b = tt
-collected t e _ b = absurd b
+collected : (t : ℕ) (e : Entry) (event : Event) → IsStepped event → IsCollected t e event
+collected t e (Load load) s = tt
+collected t e (Connect uid) s = tt
+collected t e (Called serial quiet call) s = tt
+collected t e (Returned serial) s = tt
+collected t e (AgentError serial name) s = tt
+collected t e Passed s = tt
+collected t e Depart s = tt
+collected t e (LoadFailed code) s = tt
+collected t e Stop s = tt
+collected t e (Collect of) s = absurd s
 
-built_item : (event : Event) → IsBuiltEvent event → IsBuiltItem event None
-built_item (Connect uid) b = b
-built_item (Called serial quiet call) b = b
-built_item _ b = absurd b
+-- one more entry at the end, and how many of the entries are loads
+count_end : (es : List Entry) (e : Entry) (b : Bool) → is_load e.event ≡ b → load_count (es ++ e ∷ []) ≡ count_one b (load_count es)
+count_end [] e b is = ap (λ b. count_one b 0) is
+count_end (x ∷ es) e b is = ap (count_one (is_load x.event)) (count_end es e b is) ∙ swap (is_load x.event) b (load_count es)
+  where
+    swap : (a b : Bool) (n : ℕ) → count_one a (count_one b n) ≡ count_one b (count_one a n)
+    swap true true n = refl
+    swap true false n = refl
+    swap false true n = refl
+    swap false false n = refl
 
 -- the moments of a legal history are at most 2^62
 last_bound : (past : List Item) → Legal past → last_moment past ≤ 2 ^ 62
 last_bound [] legal = omega arith
 last_bound (i ∷ past) legal = legal.0.bounded
 
-module _ (h : History) (moment : ℕ) (empty : Loaded) (sound : IsSound h moment empty) (caller m t salt : ℕ) (event : Event) (outputs : List Output) (es : List Entry)
-    (built : IsBuiltEvent event) (bounded : m ≤ 2 ^ 62) (t_is : t ≡ max moment m)
+-- one more load in a list
+length_end : (ls : List Loaded) (l : Loaded) → length (ls ++ l ∷ []) ≡ length ls + 1
+length_end ls l = length-append ls (l ∷ [])
+
+-- the first loads are those before the last
+pub front_of : (ls : List Loaded) (l : Loaded) → ls ≡ take (length ls) (ls ++ l ∷ [])
+front_of [] l = refl
+front_of (x ∷ ls) l = ap (λ r. x ∷ r) (front_of ls l)
+
+-- the last of the loads
+pub end_of : (ls : List Loaded) (l : Loaded) → slice_get (ls ++ l ∷ []) (length ls) ≡ Some l
+end_of ls l = slice_get-get_or (ls ++ l ∷ []) (length ls) l (omega (arith, length_end ls l)) ∙ ap Some (get_or_push ls l l (length ls) refl)
+
+-- an event's entry that was pushed, with a state of the history behind it
+module _ (h : History) (moment : ℕ) (empty : Loaded) (state : State) (sound : IsSound h moment empty state) (caller m t salt : ℕ) (event : Event) (outputs : List Output) (es : List Entry) (state' : State)
+    (stepped : IsStepped event) (bounded : m ≤ 2 ^ 62) (t_is : t ≡ max moment m)
     (answered : outputs ≡ answers (items_of h) caller t salt event None)
-    (pushed : es ≡ h.entries ++ record { caller = caller; moment = t; salt = salt; event = event; outputs = outputs } ∷ []) where
+    (pushed : es ≡ h.entries ++ record { caller = caller; moment = t; salt = salt; event = event; outputs = outputs } ∷ [])
+    (stands : IsStateOf (record { entry = record { caller = caller; moment = t; salt = salt; event = event; outputs = outputs }; loaded = None } ∷ items_of h) state') where
   entry_is : record { caller = caller; moment = t; salt = salt; event = event; outputs = outputs } ≡ (next (items_of h) (event_given caller m salt event)).entry
   entry_is = ap (λ (o : List Output). record { caller = caller; moment = t; salt = salt; event = event; outputs = o }) answered
       ∙ ap (λ t. (item_of (items_of h) caller t salt event None).entry) (t_is ∙ ap (λ n. max n m) sound.moment_is)
@@ -54,16 +101,60 @@ module _ (h : History) (moment : ℕ) (empty : Loaded) (sound : IsSound h moment
   event_entry = pushed ∙ ap (λ (e : Entry). h.entries ++ e ∷ []) entry_is
 
   pub event_grows : Grows h (record { entries = es; loads = h.loads }) (event_given caller m salt event)
-  event_grows = rw event_entry (items_other h (next (items_of h) (event_given caller m salt event)).entry (other event built))
+  event_grows = rw event_entry (items_other h (next (items_of h) (event_given caller m salt event)).entry (other event stepped))
 
-  pub event_sound : IsSound (record { entries = es; loads = h.loads }) t empty
+  pub event_sound : IsSound (record { entries = es; loads = h.loads }) t empty state'
   event_sound =
       let past = items_of h in
       let item : Item = next past (event_given caller m salt event) in
-      let follows : Follows past item = record { rises = omega arith; bounded = omega (arith, last_bound past sound.legal.items); numbered = numbered (loads past) event built; collected = collected (last_moment past) item.entry event built; answered = refl } in
+      let follows : Follows past item = record { rises = omega arith; bounded = omega (arith, last_bound past sound.legal.items); numbered = numbered (loads past) event stepped; collected = collected (last_moment past) item.entry event stepped; answered = refl } in
       record {
         legal = record { items = subst Legal (sym event_grows) (follows, sound.legal.items); loads = ap loads event_grows ∙ omega (arith, sound.legal.loads) };
-        built = subst IsBuilt (sym event_grows) (built_item event built, sound.built);
         moment_is = t_is ∙ ap (λ n. max n m) sound.moment_is ∙ ap last_moment (sym event_grows);
         empty_is = sound.empty_is;
+        state_is = subst (λ past. IsStateOf past state') (ap (λ (e : Entry). record { entry = e; loaded = None } ∷ past) entry_is ∙ sym event_grows) stands;
+        each_loaded = ap load_count event_entry ∙ count_end h.entries item.entry false (other event stepped) ∙ sound.each_loaded;
+        few = sound.few;
+        actions = subst (λ past. IsShort (loaded_of past).policy.actions) (sym event_grows) sound.actions;
+        rules = subst (λ past. IsShort (loaded_of past).policy.entries) (sym event_grows) sound.rules;
+      }
+
+-- a load's entry that was pushed with the load, with a state of the history behind it
+module _ (h : History) (moment : ℕ) (empty : Loaded) (state : State) (sound : IsSound h moment empty state) (caller m t number : ℕ) (l : Loaded) (outputs : List Output) (h' : History) (state' : State)
+    (bounded : m ≤ 2 ^ 62) (t_is : t ≡ max moment m) (number_is : number ≡ length h.loads + 1) (number_fits : number ≤ 4294967295)
+    (actions : IsShort l.policy.actions) (rules : IsShort l.policy.entries)
+    (answered : outputs ≡ answers (items_of h) caller t 0 (Load number) (Some l))
+    (pushed : h'.entries ≡ h.entries ++ record { caller = caller; moment = t; salt = 0; event = Load number; outputs = outputs } ∷ [])
+    (loaded : h'.loads ≡ h.loads ++ l ∷ [])
+    (stands : IsStateOf (record { entry = record { caller = caller; moment = t; salt = 0; event = Load number; outputs = outputs }; loaded = Some l } ∷ items_of h) state') where
+  load_entry_is : record { caller = caller; moment = t; salt = 0; event = Load number; outputs = outputs } ≡ (next (items_of h) (load_given caller m l)).entry
+  load_entry_is = ap (λ (o : List Output). record { caller = caller; moment = t; salt = 0; event = Load number; outputs = o }) answered
+      ∙ ap (λ t. (item_of (items_of h) caller t 0 (Load number) (Some l)).entry) (t_is ∙ ap (λ n. max n m) sound.moment_is)
+      ∙ ap (λ n. (item_of (items_of h) caller (max (last_moment (items_of h)) m) 0 (Load n) (Some l)).entry) (number_is ∙ ap (λ n. n + 1) (sym sound.legal.loads))
+
+  -- the entry that was pushed is the one of the load
+  pub load_entry : h'.entries ≡ h.entries ++ (next (items_of h) (load_given caller m l)).entry ∷ []
+  load_entry = pushed ∙ ap (λ (e : Entry). h.entries ++ e ∷ []) load_entry_is
+
+  pub load_grows : Grows h h' (load_given caller m l)
+  load_grows =
+      ap (λ (es : List Entry). items_of (record { entries = es; loads = h'.loads })) load_entry
+      ∙ ap (λ ls. items_of (record { entries = h.entries ++ (next (items_of h) (load_given caller m l)).entry ∷ []; loads = ls })) loaded
+      ∙ items_load h (next (items_of h) (load_given caller m l)).entry l refl sound.each_loaded
+
+  pub load_sound : IsSound h' t empty state'
+  load_sound =
+      let past = items_of h in
+      let item : Item = next past (load_given caller m l) in
+      let follows : Follows past item = record { rises = omega arith; bounded = omega (arith, last_bound past sound.legal.items); numbered = refl; collected = tt; answered = refl } in
+      let longer : length h'.loads ≡ length h.loads + 1 = ap length loaded ∙ length_end h.loads l in
+      record {
+        legal = record { items = subst Legal (sym load_grows) (follows, sound.legal.items); loads = ap loads load_grows ∙ omega (arith, sound.legal.loads, longer) };
+        moment_is = t_is ∙ ap (λ n. max n m) sound.moment_is ∙ ap last_moment (sym load_grows);
+        empty_is = sound.empty_is;
+        state_is = subst (λ past. IsStateOf past state') (ap (λ (e : Entry). record { entry = e; loaded = Some l } ∷ past) load_entry_is ∙ sym load_grows) stands;
+        each_loaded = ap load_count load_entry ∙ count_end h.entries item.entry true refl ∙ omega (arith, sound.each_loaded, longer);
+        few = omega (arith, longer, number_is, number_fits);
+        actions = subst (λ past. IsShort (loaded_of past).policy.actions) (sym load_grows) actions;
+        rules = subst (λ past. IsShort (loaded_of past).policy.entries) (sym load_grows) rules;
       }

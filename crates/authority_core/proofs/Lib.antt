@@ -1,2 +1,1 @@
-pub mod PlainAnswers
 pub mod Growing

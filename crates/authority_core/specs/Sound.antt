@@ -1,28 +1,23 @@
 -- What an authority keeps.
-use Rattle.std.specs.Prelude.{ℕ, ◌≡◌, ⊤, List, [], ◌∷◌, Option, Some, None}
-use Rattle.authority_model.specs.declared.event.Event.{Event}
-use Rattle.authority_model.specs.declared.event.Event.TheVariants.{Load}
+use Rattle.std.specs.Prelude.{ℕ, ◌≡◌, ◌≤◌, ◌∷◌, List, Option, length}
+use Rattle.authority_model.specs.declared.journal.Entry.{Entry}
 use Rattle.authority_model.specs.declared.journal.History.{History}
 use Rattle.authority_model.specs.declared.journal.Item.{Item}
 use Rattle.authority_model.specs.declared.load.Loaded.{Loaded}
-use Rattle.authority_model.specs.Items.{items_of, empty_loaded}
+use Rattle.authority_model.specs.Items.{items_of, empty_loaded, loaded_of}
 use Rattle.authority_model.specs.Legal.{IsLegal, last_moment}
-use Rattle.authority_model.specs.Built.{IsBuiltEvent, IsPlainLoad}
+use Rattle.authority_model.specs.Small.{IsShort}
+use Rattle.authority_model.proofs.Pairing.{load_count}
+use Rattle.journal_state.specs.declared.state.State.{State}
+use Rattle.journal_state.specs.States.{IsStateOf}
 
--- an event with its load uses what is built
-abbrev pub IsBuiltItem : Event → Option Loaded → Type 0
-IsBuiltItem (Load load) (Some l) = IsPlainLoad l
-IsBuiltItem event (Some l) = ⊥
-IsBuiltItem event None = IsBuiltEvent event
-
--- each item uses what is built
-abbrev pub IsBuilt : List Item → Type 0
-IsBuilt [] = ⊤
-IsBuilt (i ∷ past) = IsBuiltItem i.entry.event i.loaded × IsBuilt past
-
--- The journal is legal and uses what is built, and beside it stand its greatest moment and load 0.
-pub record IsSound (h : History) (moment : ℕ) (empty : Loaded) : Type 0 where
+-- The journal is legal, and beside it stand its greatest moment, load 0, and the state of its history. Its loads are counted in 32 bits, and so are the actions and the rules in force.
+pub record IsSound (h : History) (moment : ℕ) (empty : Loaded) (state : State) : Type 0 where
   pub legal : IsLegal h
-  pub built : IsBuilt (items_of h)
   pub moment_is : moment ≡ last_moment (items_of h)
   pub empty_is : empty ≡ empty_loaded
+  pub state_is : IsStateOf (items_of h) state
+  pub each_loaded : load_count h.entries ≡ length h.loads
+  pub few : length h.loads ≤ 4294967295
+  pub actions : IsShort (loaded_of (items_of h)).policy.actions
+  pub rules : IsShort (loaded_of (items_of h)).policy.entries

@@ -2,19 +2,16 @@
 ghost use Rattle.std.specs.Prelude.{◌≡◌, ◌≤◌, ◌^◌, ◌++◌, ◌∷◌, [], max, length, slice_get, IfOk, IfErr, OnOk, OnErr};
 ghost use Rattle.std.specs.Option.{option_copied, option_map};
 ghost use Rattle.authority_model.specs.declared.journal.History.{History as TheHistory};
-ghost use Rattle.authority_model.specs.Built.{IsBuiltEvent, IsBuiltLoad};
 ghost use Rattle.authority_model.specs.Items.{items_of, policy_of};
 ghost use Rattle.authority_model.specs.Legal.{IsLegal, last_moment};
 ghost use Rattle.authority_model.specs.Licensed.{AllLicensed};
-ghost use Rattle.authority_model.specs.Given.{event_given, load_given, next, Grows};
-ghost use Rattle.authority_model.specs.Deciding.{decision as decision_on, told_decision};
-ghost use Rattle.authority_model.specs.Grants.{kept};
+ghost use Rattle.authority_model.specs.Given.{IsStepped, event_given, load_given, next, Grows};
 
-use crate::answer::outputs;
-use crate::decide::{decision, default_value};
-use authority_model::{Decision, Entry, Event, History, Loaded};
-use journal_search::{action, facts, loaded};
-use pk_types::{List, NoMemory, Subject, Text};
+use crate::entering::{enter, enter_load, load_in_force, next_load};
+use authority_model::{Entry, Event, History, Loaded};
+use journal_answers::{load_outputs, outputs};
+use journal_state::State;
+use pk_types::{List, NoMemory};
 use std::alloc::Global;
 use std::marker::Model;
 
@@ -65,6 +62,8 @@ pub struct Authority {
     moment: u64,
     /// Load 0, which is in force until the first load.
     empty: Loaded,
+    /// What the journal comes to, kept from entry to entry.
+    state: State,
 }
 
 impl Model for Authority {
@@ -75,7 +74,7 @@ impl Model for Authority {
 
     ghost view = { λ a. a.history };
 
-    ghost invariant = { λ a. IsSound a.history a.moment a.empty };
+    ghost invariant = { λ a. IsSound a.history a.moment a.empty a.state };
 }
 
 impl Authority {
@@ -94,6 +93,7 @@ impl Authority {
             },
             moment: 0,
             empty: Loaded::empty(alloc),
+            state: State::start(alloc),
         })
     }
 
@@ -125,7 +125,7 @@ impl Authority {
         salt: u128,
         event: Event,
     ) -> Result<u64, StepRefused>
-        requires built { IsBuiltEvent event }
+        requires event { IsStepped event }
         requires moment { moment ≤ 2 ^ 62 }
         ensures place { IfOk result (λ place. place ≡ length self.old.entries) }
         ensures grows { OnOk result (Grows self.old self.new (event_given caller moment salt event)) }
@@ -135,13 +135,22 @@ impl Authority {
         ensures err { OnErr result (self.new ≡ self.old) }
         ensures back { IfErr result (λ refused. refused ≡ StepRefused.NoMemory event) }
     {
-        let in_force = loaded(&self.history, &self.empty);
-        let outputs = match outputs(self.alloc, &self.history, in_force, caller, &event) {
+        let loads = self.history.loads.len() as u32;
+        let in_force = load_in_force(self.history.loads.as_slice(), &self.empty);
+        let moment = self.moment.max(moment);
+        let outputs = match outputs(
+            self.alloc,
+            &self.state,
+            in_force,
+            loads,
+            caller,
+            moment,
+            salt,
+            &event,
+        ) {
             Ok(outputs) => outputs,
             Err(NoMemory) => return Err(StepRefused::NoMemory { event }),
         };
-        let place = self.history.entries.len();
-        let moment = self.moment.max(moment);
         let entry = Entry {
             caller,
             moment,
@@ -149,7 +158,14 @@ impl Authority {
             event,
             outputs,
         };
-        match self.history.entries.push_or_return(entry) {
+        let place = self.history.entries.len();
+        match enter(
+            &mut self.history.entries,
+            &mut self.state,
+            in_force,
+            entry,
+            None,
+        ) {
             Ok(()) => {
                 self.moment = moment;
                 Ok(place as u64)
@@ -162,7 +178,6 @@ impl Authority {
     ///
     /// The entry has the greatest moment handed in so far and the random word 0.
     pub fn load(&mut self, caller: u32, moment: u64, loaded: Loaded) -> Result<u64, LoadStepRefused>
-        requires built { IsBuiltLoad self.old loaded }
         requires moment { moment ≤ 2 ^ 62 }
         ensures place { IfOk result (λ place. place ≡ length self.old.entries) }
         ensures grows { OnOk result (Grows self.old self.new (load_given caller moment loaded)) }
@@ -172,41 +187,34 @@ impl Authority {
         ensures err { OnErr result (self.new ≡ self.old) }
         ensures back { IfErr result (λ refused. refused ≡ LoadStepRefused.NoMemory loaded) }
     {
-        let place = self.history.entries.len();
+        let Some(number) = next_load(&self.history.loads, &loaded) else {
+            return Err(LoadStepRefused::NoMemory { loaded });
+        };
+        let outputs = match load_outputs(self.alloc, &self.state, &loaded.world) {
+            Ok(outputs) => outputs,
+            Err(NoMemory) => return Err(LoadStepRefused::NoMemory { loaded }),
+        };
         let greatest = self.moment.max(moment);
         let entry = Entry {
             caller,
             moment: greatest,
             salt: 0,
-            event: Event::Load { load: 1 },
-            outputs: List::new(self.alloc),
+            event: Event::Load { load: number },
+            outputs,
         };
-        match self.history.entries.push_or_return(entry) {
-            Ok(()) => {}
-            Err(_) => return Err(LoadStepRefused::NoMemory { loaded }),
-        }
-        match self.history.loads.push_or_return(loaded) {
+        let place = self.history.entries.len();
+        match enter_load(
+            &mut self.history,
+            &mut self.state,
+            &self.empty,
+            entry,
+            loaded,
+        ) {
             Ok(()) => {
                 self.moment = greatest;
                 Ok(place as u64)
             }
-            Err(loaded) => {
-                self.history.entries.truncate(place);
-                Err(LoadStepRefused::NoMemory { loaded })
-            }
+            Err(loaded) => Err(LoadStepRefused::NoMemory { loaded }),
         }
-    }
-
-    /// What a check of a subject would be told without a challenge, at this moment or the journal's
-    /// greatest, whichever is greater. `None` exactly where the action is unknown or nothing is known
-    /// of the subject.
-    pub fn decide(&self, moment: u64, subject: &Subject, id: &Text) -> Option<Decision>
-        ensures decision { result ≡ option_map (told_decision (policy_of (items_of self.now))) (decision_on (items_of self.now) (kept (items_of self.now)) (max (last_moment (items_of self.now)) moment) subject.now id.now) }
-    {
-        let in_force = loaded(&self.history, &self.empty);
-        let action = action(&in_force.policy, id)?;
-        let facts = facts(&in_force.world, None, subject)?;
-        let value = default_value(action, facts.category);
-        Some(decision(facts.uid, facts.category, value))
     }
 }

@@ -1,13 +1,13 @@
 //! The authority on one thread: each event is one entry of its journal, with the answers that the
 //! definitions give.
 //!
-//! The authority keeps no table. Who is connected, which policy and world are in force, and what is
-//! decided is searched in the journal each time.
+//! Beside the journal the authority keeps its state: who is connected, which agents are registered,
+//! which challenges are pending and which grants stand. It is carried on with each entry, so that no
+//! answer searches the journal.
 #![tactic(auto)]
 
-mod answer;
 mod authority;
-mod decide;
+mod entering;
 #[cfg(test)]
 mod tests;
 

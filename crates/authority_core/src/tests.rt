@@ -1,7 +1,6 @@
 // Each public call once, with ample memory, and the answers of checks by root and by defaults.
-ghost use Rattle.std.specs.Prelude.{◌≡◌, [], IfOk};
-ghost use Rattle.authority_model.specs.Lists.{Each};
-ghost use Rattle.authority_model.specs.Built.{IsBuiltEvent, IsPlainLoad};
+ghost use Rattle.std.specs.Prelude.{IfOk};
+ghost use Rattle.authority_model.specs.Given.{IsStepped};
 
 use crate::{Authority, Limits};
 use authority_model::{
@@ -98,9 +97,7 @@ const DECISIONS: [Case; 6] = [
     (51, 9, "a.yes", None),
 ];
 
-fn action(alloc: Global, id: &str, any: Implicit) -> Result<Action, Fail>
-    ensures bare { IfOk result (λ action. action.annotations ≡ []) }
-{
+fn action(alloc: Global, id: &str, any: Implicit) -> Result<Action, Fail> {
     let id = ActionId::read(&Text::try_from_bytes(alloc, id.as_bytes())?)?;
     Ok(Action {
         id,
@@ -125,9 +122,7 @@ fn process(pid: u32, start: u64, uid: u32) -> Process {
     }
 }
 
-fn plain_actions(alloc: Global) -> Result<ActionList, Fail>
-    ensures bare { IfOk result (λ actions. Each (λ a. a.annotations ≡ []) actions) }
-{
+fn some_actions(alloc: Global) -> Result<ActionList, Fail> {
     let mut actions = List::new(alloc);
     actions.try_push(action(alloc, "a.yes", Implicit::Yes)?)?;
     actions.try_push(action(alloc, "a.no", Implicit::No)?)?;
@@ -143,17 +138,15 @@ fn some_processes(alloc: Global) -> Result<ProcessList, NoMemory> {
     Ok(processes)
 }
 
-fn plain_load(alloc: Global) -> Result<Loaded, Fail>
-    ensures plain { IfOk result IsPlainLoad }
-{
+fn some_load(alloc: Global) -> Result<Loaded, Fail> {
     let mut loaded = Loaded::empty(alloc);
-    loaded.policy.actions = plain_actions(alloc)?;
+    loaded.policy.actions = some_actions(alloc)?;
     loaded.world.processes = some_processes(alloc)?;
     Ok(loaded)
 }
 
 fn check(alloc: Global, serial: u32, pid: u32, start: u64, id: &str) -> Result<Event, Fail>
-    ensures built { IfOk result IsBuiltEvent }
+    ensures stepped { IfOk result IsStepped }
 {
     let action = Text::try_from_bytes(alloc, id.as_bytes())?;
     Ok(Event::Call {
@@ -171,7 +164,7 @@ fn check(alloc: Global, serial: u32, pid: u32, start: u64, id: &str) -> Result<E
 
 /// An authority with a load at moment 5, which is its first entry.
 fn started(alloc: Global) -> Result<Authority, Fail> {
-    let loaded = plain_load(alloc)?;
+    let loaded = some_load(alloc)?;
     let mut authority = Authority::start(alloc, LIMITS)?;
     match authority.load(0, 5, loaded) {
         Ok(0) => Ok(authority),
@@ -181,7 +174,7 @@ fn started(alloc: Global) -> Result<Authority, Fail> {
 
 /// The answer to an event, whose entry is the last one and has moment 5.
 fn answered(authority: &mut Authority, caller: u32, event: Event) -> Option<Told>
-    requires built { IsBuiltEvent event }
+    requires stepped { IsStepped event }
 {
     let place = authority.step(caller, 3, 0, event).ok()?;
     let entry = authority.entry(place)?;
@@ -218,6 +211,21 @@ fn is_decided(authority: &Authority, alloc: Global, row: &Case) -> Result<bool, 
     let (pid, start, id, want) = *row;
     let id = Text::try_from_bytes(alloc, id.as_bytes())?;
     Ok(authority.decide(0, &Subject::Process { pid, start }, &id) == want)
+}
+
+#[test]
+fn a_later_load_is_told_to_live_callers(rt: HostRuntime) -> Result<(), Fail> {
+    let alloc = rt.alloc();
+    let mut authority = started(alloc)?;
+    assert!(rt; answered(&mut authority, 1, Event::Connect { uid: 1000 }) == Some(Told::Nothing));
+    assert!(rt; authority.load(0, 0, Loaded::empty(alloc)).ok() == Some(2));
+    let Some(entry) = authority.entry(2) else {
+        return Ok(Err(NoMemory)?);
+    };
+    assert!(rt; entry.moment == 5 && entry.outputs.len() == 1);
+    assert!(rt; matches!(&entry.event, Event::Load { load: 2 }));
+    assert!(rt; authority.decide(0, &Subject::Process { pid: 1, start: 1 }, &Text::try_from_bytes(alloc, b"a.no")?).is_none());
+    Ok(())
 }
 
 #[test]

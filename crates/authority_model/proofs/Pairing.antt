@@ -2,7 +2,7 @@
 use Rattle.std.proofs.Common.{zero, take, get_or, ◌<◌, ◌≤◌, add-one, ◌≡◌, ℕ, suc, ◌+◌, Bool, true, false, List, [], ◌∷◌, ◌++◌, refl, ap, sym, ◌∙◌, Option, Some, None, length, arith}
 use Rattle.std.specs.Prelude.{reverse}
 use Rattle.std.proofs.Math.Seq.{take-nil}
-use Rattle.std.proofs.lemmas.List.{reverse-append}
+use Rattle.std.proofs.lemmas.List.{reverse-append, length-reverse}
 use Rattle.authority_model.specs.declared.journal.Entry.{Entry}
 use Rattle.authority_model.specs.declared.journal.History.{History}
 use Rattle.authority_model.specs.declared.load.Loaded.{Loaded}
@@ -77,6 +77,10 @@ length-paired (x ∷ es) ls = go (is_load x.event) ls (λ ls. length-paired es l
     go false ls ih = ap suc (ih ls)
     go true [] ih = ap suc (ih [])
     go true (l ∷ ls) ih = ap suc (ih ls)
+
+-- a history has as many items as entries
+pub length_items : (h : History) → length (items_of h) ≡ length h.entries
+length_items h = length-reverse (paired h.entries h.loads) ∙ length-paired h.entries h.loads
 
 -- before the end is the whole history
 pub before_end : (h : History) (k : ℕ) → length h.entries ≤ k → before h k ≡ items_of h
