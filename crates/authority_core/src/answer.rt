@@ -11,9 +11,10 @@ use crate::decide::{default_value, verdict};
 use authority_model::{
     Answer, Call, ErrorCause, Event, History, Loaded, Message, Output, OutputList,
 };
-use journal_search::{action, facts, is_live, speaks_for};
+use journal_search::{action, is_live, speaks_for};
 use pk_types::{List, NoMemory, Subject, Text};
 use std::alloc::Global;
+use subject_table::facts;
 
 /// The answer to a check by a live caller: its first refusal, or its verdict.
 fn check(

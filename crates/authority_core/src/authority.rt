@@ -13,10 +13,11 @@ ghost use Rattle.authority_model.specs.Grants.{kept};
 use crate::answer::outputs;
 use crate::decide::{decision, default_value};
 use authority_model::{Decision, Entry, Event, History, Loaded};
-use journal_search::{action, facts, loaded};
+use journal_search::{action, loaded};
 use pk_types::{List, NoMemory, Subject, Text};
 use std::alloc::Global;
 use std::marker::Model;
+use subject_table::facts;
 
 /// How much a journal may hold. It has no effect yet.
 #[derive(Clone, Copy, Debug, PartialEq, Eq)]

@@ -10,4 +10,4 @@ mod rows;
 
 pub use loads::loaded;
 pub use peers::{Peer, find_peer, is_live, speaks_for};
-pub use rows::{action, facts, process, session};
+pub use rows::action;

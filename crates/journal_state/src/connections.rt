@@ -8,11 +8,11 @@ ghost use Rattle.authority_model.specs.Peers.{uid_of, live, announced, is_root, 
 ghost use Rattle.journal_state.specs.Connected.{Tells, row_of, row_after, may_announce};
 
 use authority_model::{Call, Entry, Event, World};
-use journal_search::process;
 use pk_types::NoMemory;
 use std::alloc::Global;
 use std::collections::BTreeMap;
 use std::marker::Model;
+use subject_table::process;
 
 /// What is known of a caller that connected.
 #[derive(Clone, Copy, Debug, PartialEq, Eq)]
