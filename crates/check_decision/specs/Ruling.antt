@@ -1,5 +1,5 @@
 -- A ruling as the decision that the definitions speak of.
-use Rattle.check_decision.specs.declared.ruling.Ruling.{Ruling}
+use Rattle.check_decision.specs.declared.rulings.Ruling.{Ruling}
 use Rattle.authority_model.specs.Deciding.{Decision}
 
 -- the decision that a ruling with a borrowed id stands for

@@ -6,7 +6,7 @@ ghost use Rattle.authority_model.specs.Verdicts.{yes_by, no_by, challenge_by, gr
 ghost use Rattle.authority_model.specs.Verdicts as verdicts;
 ghost use Rattle.check_decision.specs.Ruling.{ruling_seen};
 
-use crate::ruling::Ruling;
+use crate::rulings::Ruling;
 use crate::values::is_keep;
 use authority_model::{Policy, Reason, RuleSource, Verdict};
 use pk_types::{List, NoMemory, PairList};
