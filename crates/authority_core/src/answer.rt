@@ -11,8 +11,9 @@ use crate::decide::{default_value, verdict};
 use authority_model::{
     Answer, Call, ErrorCause, Event, History, Loaded, Message, Output, OutputList,
 };
-use journal_search::{action, is_live, speaks_for};
+use journal_search::{is_live, speaks_for};
 use pk_types::{List, NoMemory, Subject, Text};
+use policy_decide::action;
 use std::alloc::Global;
 use subject_table::facts;
 
