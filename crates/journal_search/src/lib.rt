@@ -6,8 +6,6 @@
 
 mod loads;
 mod peers;
-mod rows;
 
 pub use loads::loaded;
 pub use peers::{Peer, find_peer, is_live, speaks_for};
-pub use rows::{action, facts, process, session};

@@ -1,4 +1,6 @@
 pub mod Stepping
+pub mod Rising
+pub mod Living
 pub mod TooLarge
 pub mod Knowing
 pub mod Ends

@@ -1,5 +1,5 @@
 -- What is kept of the callers that ever connected.
-use Rattle.std.specs.Prelude.{◌≡◌, ℕ, ◌==◌, Bool, false, not, ◌&&◌, ◌||◌, List, Option, Some, None, option_map, option_and_then}
+use Rattle.std.specs.Prelude.{◌≡◌, ℕ, ◌==◌, Bool, false, not, ◌&&◌, ◌||◌, if◌then◌else◌, List, [], ◌∷◌, Option, Some, None, option_map, option_and_then}
 use Rattle.std.specs.Option.{option_map_or}
 use Rattle.std.specs.Map.{lookup}
 use Rattle.std.specs.BTreeMap.{is_at}
@@ -47,3 +47,8 @@ abbrev pub announced_by : List Item → Subject → Option (ℕ × ℕ)
 announced_by past (Subject.Process pid start) = None
 announced_by past (Subject.Session id) = None
 announced_by past (Subject.BusName name) = option_and_then (announced past) (caller_named name)
+
+-- the callers of the rows that did not depart
+abbrev pub live_rows : List (ℕ × Connection) → List ℕ
+live_rows [] = []
+live_rows (e ∷ rows) = if not e.1.departed then e.0 ∷ live_rows rows else live_rows rows

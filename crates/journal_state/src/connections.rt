@@ -1,18 +1,21 @@
 // Who connected, and what each connection announced.
-ghost use Rattle.std.specs.Prelude.{◌≡◌, ◌∷◌, [], List, Option, OnOk, OnErr, option_and_then};
+ghost use Rattle.std.specs.Prelude.{◌≡◌, ◌∷◌, [], List, Option, Some, OnOk, OnErr, IfOk, option_and_then};
+ghost use Rattle.std.specs.List.{All};
+ghost use Rattle.std.specs.Ordering.{nat_cmp};
+ghost use Rattle.std.specs.BTreeMap.{IsOrdered};
 ghost use Rattle.authority_model.specs.declared.load.Loaded.{Loaded};
 ghost use Rattle.authority_model.specs.declared.journal.Item.{Item};
 ghost use Rattle.authority_model.specs.Items.{world_of};
 ghost use Rattle.authority_model.specs.Lists.{when};
-ghost use Rattle.authority_model.specs.Peers.{uid_of, live, announced, is_root, may_for, uid_given, is_depart, call_in, process_named};
-ghost use Rattle.journal_state.specs.Connected.{Tells, row_of, row_after, may_announce};
+ghost use Rattle.authority_model.specs.Peers.{uid_of, live, announced, is_root, may_for, live_callers, uid_given, is_depart, call_in, process_named};
+ghost use Rattle.journal_state.specs.Connected.{Tells, row_of, row_after, may_announce, live_rows};
 
 use authority_model::{Call, Entry, Event, World};
-use journal_search::process;
 use pk_types::NoMemory;
 use std::alloc::Global;
 use std::collections::BTreeMap;
 use std::marker::Model;
+use subject_table::process;
 
 /// What is known of a caller that connected.
 #[derive(Clone, Copy, Debug, PartialEq, Eq)]
@@ -118,6 +121,21 @@ fn row_after(world: &World, row: Option<Connection>, event: &Event) -> Option<Co
     }
 }
 
+/// The callers whose connections have not ended, in the order of the rows.
+fn live_in(alloc: Global, rows: &BTreeMap<u32, Connection>) -> Result<Vec<u32>, NoMemory>
+    ensures live { IfOk result (λ v. v.items ≡ live_rows rows.now.entries) }
+    ensures ordered { IsOrdered nat_cmp rows.now }
+    ensures found { All (λ e. row_of rows.now.entries e.0 ≡ Some e.1) rows.now.entries }
+{
+    let mut live = Vec::new(alloc);
+    for (caller, row) in rows.iter() {
+        if !row.departed {
+            live.push(*caller)?;
+        }
+    }
+    Ok(live)
+}
+
 impl Connections {
     /// The connections of the empty history. It takes no memory.
     pub fn start(alloc: Global) -> Connections
@@ -183,6 +201,13 @@ impl Connections {
             Some(row) => { if row.departed { None } else { row.announced } }
             None => None,
         }
+    }
+
+    /// The live callers, by rising number.
+    pub fn live_callers(&self, alloc: Global) -> Result<Vec<u32>, NoMemory>
+        ensures live { (past : List Item) → Tells self.now past → IfOk result (λ callers. callers.items ≡ live_callers past) }
+    {
+        live_in(alloc, &self.rows)
     }
 
     /// Carries the connections on by one entry, in the world that was in force before it.

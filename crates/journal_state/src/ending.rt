@@ -10,10 +10,11 @@ ghost use Rattle.journal_state.specs.Connected.{Tells};
 ghost use Rattle.journal_state.specs.Ended.{IsEnding, ends_caller, ends_registration, ends_key, unregistered_seen, unregistered_by, unregistered_in};
 
 use crate::connections::Connections;
-use crate::keys::{is_key, lists};
+use crate::keys::is_key;
 use crate::subjects::facts_of;
 use authority_model::{Call, Entry, Event, Key, KeyRef, Loaded, World};
 use pk_types::{Subject, Text};
+use subject_table::lists_key;
 
 /// The key and the path of a registration.
 #[derive(Clone, Copy)]
@@ -135,7 +136,7 @@ impl Ending<'_> {
         ensures ends { result ≡ ends_key self.entry key.now }
     {
         match self.loads {
-            Some(world) => !lists(world, key),
+            Some(world) => !lists_key(world, key),
             None => false,
         }
     }

@@ -17,10 +17,10 @@ use crate::ending::{Ending, ending_of};
 use crate::keys::{is_key, owned};
 use crate::subjects::facts_of;
 use authority_model::{Agent, Call, Entry, Event, Facts, KeyRef, Loaded, World};
-use journal_search::session;
 use pk_types::{NoMemory, Text};
 use std::alloc::Global;
 use std::marker::Model;
+use subject_table::session;
 
 /// The registrations in force, the oldest first.
 #[derive(Drop)]

@@ -10,8 +10,8 @@ ghost use Rattle.journal_state.specs.Connected.{Tells, announced_by};
 use crate::connections::Connections;
 use crate::names::caller_of;
 use authority_model::{Facts, World};
-use journal_search::facts;
 use pk_types::Subject;
+use subject_table::facts;
 
 /// The process that the connection of a bus name announced.
 fn announced(connections: &Connections, subject: &Subject) -> Option<(u32, u64)>

@@ -1,46 +1,12 @@
-// Rows of a policy and of a world, and what is known of a subject by them.
+// What is known of a subject by its row.
 ghost use Rattle.std.specs.Prelude.{◌≡◌};
 ghost use Rattle.std.specs.Option.{option_copied, option_map};
-ghost use Rattle.authority_model.specs.Worlds.{process_row, session_row};
-ghost use Rattle.authority_model.specs.Rules.{action_of};
 ghost use Rattle.authority_model.specs.Facts.{category_of, facts_of_process, facts_of_session, facts_seen};
 ghost use Rattle.authority_model.specs.Subjects.{facts_in, facts_of_row};
 
-use authority_model::{Action, Facts, KeyRef, Policy, Process, Session, World};
-use pk_types::{Category, Subject, Text};
-
-/// The action of an id: the first that has it.
-pub fn action<'a>(policy: &'a Policy, id: &Text) -> Option<&'a Action>
-    ensures first { option_copied result ≡ action_of policy.now id.now }
-{
-    policy
-        .actions
-        .as_slice()
-        .iter()
-        .find(|action| action.id.text().is_same(id))
-}
-
-/// The first row of a process with this pid and start.
-pub fn process<'a>(world: &'a World, pid: u32, start: u64) -> Option<&'a Process>
-    ensures first { option_copied result ≡ process_row world.now pid start }
-{
-    world
-        .processes
-        .as_slice()
-        .iter()
-        .find(|row| row.pid == pid && row.start == start)
-}
-
-/// The first row of a session with this id.
-pub fn session<'a>(world: &'a World, id: &Text) -> Option<&'a Session>
-    ensures first { option_copied result ≡ session_row world.now id.now }
-{
-    world
-        .sessions
-        .as_slice()
-        .iter()
-        .find(|row| row.id.is_same(id))
-}
+use crate::rows::{process, session};
+use authority_model::{Facts, KeyRef, Process, Session, World};
+use pk_types::{Category, Subject};
 
 /// The category of a session.
 fn category(session: Option<&Session>) -> Category
@@ -61,7 +27,7 @@ fn category(session: Option<&Session>) -> Category
 }
 
 /// What is known of a process.
-fn process_facts<'a>(world: &'a World, row: &'a Process) -> Facts<'a>
+pub fn process_facts<'a>(world: &'a World, row: &'a Process) -> Facts<'a>
     ensures facts { facts_seen result ≡ facts_of_process world.now row.now }
 {
     let found: Option<&'a Session> = match &row.session {
@@ -81,7 +47,7 @@ fn process_facts<'a>(world: &'a World, row: &'a Process) -> Facts<'a>
 }
 
 /// What is known of a session.
-fn session_facts(row: &Session) -> Facts<'_>
+pub fn session_facts(row: &Session) -> Facts<'_>
     ensures facts { facts_seen result ≡ facts_of_session row.now }
 {
     Facts {

@@ -1,0 +1,17 @@
+use Rattle.std.proofs.Common.{◌≡◌, List, take}
+use Rattle.std.specs.Prelude.{map, filter}
+use Rattle.std.specs.Option.{option_copied}
+use Rattle.authority_model.specs.declared.journal.Item.{Item}
+use Rattle.authority_model.specs.Items.{loaded_of}
+use Rattle.authority_model.specs.Facts.{facts_seen}
+use Rattle.authority_model.specs.Words.{least_text}
+use Rattle.check_decision.proofs.LeastAction.{counted}
+use Rattle.check_decision.proofs.implying.least_implying.Given as goal
+
+abbrev pub invariant-loop-candidate : goal.invariant-loop-candidate
+invariant-loop-candidate l = record {
+  least :
+      (past : List Item) → l.loaded ≡ loaded_of past
+      → option_copied l.least ≡ least_text (map (λ x. x.id) (filter (counted past l.grants (facts_seen l.facts) l.moment l.id) (take l.candidate-index l.candidate-items)));
+  items : l.candidate-items ≡ l.loaded.policy.actions;
+}

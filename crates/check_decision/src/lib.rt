@@ -1,0 +1,20 @@
+//! The decision on a subject's facts, and its verdict.
+//!
+//! A ruling is the decision that the definitions take on a check: by uid 0, by the value of the
+//! action, by a grant, or by an action that implies this one. It takes no memory, and its cost grows
+//! with the number of actions times the length of an annotation. Verdicts and identities take memory.
+#![tactic(auto)]
+
+mod annotations;
+mod decide;
+mod grants;
+mod implying;
+mod order;
+mod rulings;
+mod values;
+mod verdicts;
+mod words;
+
+pub use decide::ruling;
+pub use rulings::Ruling;
+pub use verdicts::{no, verdict};

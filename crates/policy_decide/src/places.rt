@@ -1,0 +1,98 @@
+// The identity places of a user, and the rule that decides there.
+ghost use Rattle.std.specs.Prelude.{◌≡◌, flat_map};
+ghost use Rattle.std.specs.Option.{option_copied, option_map};
+ghost use Rattle.authority_model.specs.Worlds.{user_row, group_row};
+ghost use Rattle.authority_model.specs.Rules.{deciding, greatest, places_of_row};
+ghost use Rattle.authority_model.specs.Small.{IsShort};
+ghost use Rattle.policy_decide.specs.Walks.{rule_seen, group_places};
+
+use crate::rules::{Rule, last_of};
+use authority_model::{Group, Policy, User, World};
+use pk_types::{Category, Text};
+
+/// The first row of a user with this uid.
+fn user(world: &World, uid: u32) -> Option<&User>
+    ensures first { option_copied result ≡ user_row world.now uid }
+{
+    world.users.as_slice().iter().find(|row| row.uid == uid)
+}
+
+/// The first row of a group with this gid.
+fn group(world: &World, gid: u32) -> Option<&Group>
+    ensures first { option_copied result ≡ group_row world.now gid }
+{
+    world.groups.as_slice().iter().find(|row| row.gid == gid)
+}
+
+/// The last rule that matches at the place of a group.
+fn last_of_group<'a>(
+    policy: &'a Policy,
+    world: &World,
+    gid: u32,
+    category: Category,
+    action: &Text,
+) -> Option<Rule<'a>>
+    requires entries { IsShort policy.now.entries }
+    ensures last { option_map rule_seen result ≡ greatest policy.now action.now category (group_places world.now gid) }
+{
+    match group(world, gid) {
+        Some(row) => last_of(policy.entries.as_slice(), action, category, &row.label),
+        None => None,
+    }
+}
+
+/// The rule that decides at the places of these groups: the last one that matches at the last place
+/// at which one matches.
+fn greatest_of_groups<'a>(
+    policy: &'a Policy,
+    world: &World,
+    gids: &[u32],
+    category: Category,
+    action: &Text,
+) -> Option<Rule<'a>>
+    requires entries { IsShort policy.now.entries }
+    ensures greatest { option_map rule_seen result ≡ greatest policy.now action.now category (flat_map (group_places world.now) gids.now) }
+{
+    for i in (0..gids.len()).rev() {
+        let found = last_of_group(policy, world, gids[i], category, action);
+        if found.is_some() {
+            return found;
+        }
+    }
+    None
+}
+
+/// The rule that decides at the places of a user: its own comes last, and before it those of its
+/// groups.
+fn greatest_of_user<'a>(
+    policy: &'a Policy,
+    world: &World,
+    user: &User,
+    category: Category,
+    action: &Text,
+) -> Option<Rule<'a>>
+    requires entries { IsShort policy.now.entries }
+    ensures greatest { option_map rule_seen result ≡ greatest policy.now action.now category (places_of_row world.now user.now) }
+{
+    match last_of(policy.entries.as_slice(), action, category, &user.label) {
+        Some(rule) => Some(rule),
+        None => greatest_of_groups(policy, world, user.gids.as_slice(), category, action),
+    }
+}
+
+/// The rule that decides for a user. One without a row stands at no place.
+pub fn deciding<'a>(
+    policy: &'a Policy,
+    world: &World,
+    uid: u32,
+    category: Category,
+    action: &Text,
+) -> Option<Rule<'a>>
+    requires entries { IsShort policy.now.entries }
+    ensures deciding { option_map rule_seen result ≡ deciding policy.now world.now uid category action.now }
+{
+    match user(world, uid) {
+        Some(row) => greatest_of_user(policy, world, row, category, action),
+        None => None,
+    }
+}
