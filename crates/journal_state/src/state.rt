@@ -1,58 +1,54 @@
 // The state of a history.
-ghost use Rattle.std.specs.Prelude.{◌≡◌, ◌<◌, ◌∷◌, [], List, OnOk, OnErr, IfOk};
-ghost use Rattle.std.specs.Option.{option_copied, option_map_or};
+ghost use Rattle.std.specs.Prelude.{◌≡◌, ◌<◌, ◌∷◌, [], List, OnOk, OnErr};
+ghost use Rattle.std.specs.Option.{option_copied};
 ghost use Rattle.authority_model.specs.declared.journal.Item.{Item};
+ghost use Rattle.authority_model.specs.Items.{world_of};
 ghost use Rattle.authority_model.specs.Challenges.{opened as opened_by};
+ghost use Rattle.authority_model.specs.Grants.{granted as granted_by};
+ghost use Rattle.journal_state.specs.Counted.{Counts, CanCountAll};
 ghost use Rattle.journal_state.specs.States.{IsStateOf};
+ghost use Rattle.journal_state.specs.Tables.{HasRoom};
 
 use crate::challenges::Challenges;
 use crate::connections::Connections;
 use crate::ending::ending_of;
+use crate::grants::Grants;
 use crate::registrations::Registrations;
 use crate::response::response_in;
-use authority_model::{Entry, Loaded, Pending};
-use pk_types::{NoMemory, TryCopy};
+use crate::revocation::revocation_of;
+use crate::sent::SentCounts;
+use authority_model::{Entry, GrantRow, Loaded, Output, Pending, World};
+use pk_types::NoMemory;
 use std::alloc::Global;
 
 /// What the definitions say of a history, kept from item to item.
 #[derive(Drop)]
 pub struct State {
     pub connections: Connections,
+    pub sent: SentCounts,
     pub registrations: Registrations,
     pub challenges: Challenges,
-    /// The load in force.
-    pub loaded: Loaded,
+    pub grants: Grants,
 }
 
-/// A copy of a load that may lack.
-fn copy_of(loaded: Option<&Loaded>) -> Result<Option<Loaded>, NoMemory>
-    ensures copy { IfOk result (λ copy. copy ≡ option_copied loaded.entry) }
-{
-    match loaded {
-        Some(loaded) => Ok(Some(loaded.try_copy()?)),
-        None => Ok(None),
-    }
-}
-
-/// Takes room for one more registration and one more challenge.
-fn reserve(registrations: &mut Registrations, challenges: &mut Challenges) -> Result<(), NoMemory>
+/// Takes room for one more row of each table.
+fn reserve_rows(
+    registrations: &mut Registrations,
+    challenges: &mut Challenges,
+    grants: &mut Grants,
+) -> Result<(), NoMemory>
     ensures registrations { registrations.new.items ≡ registrations.old.items }
     ensures challenges { challenges.new.items ≡ challenges.old.items }
+    ensures opened { challenges.new.count ≡ challenges.old.count }
+    ensures grants { grants.new.items ≡ grants.old.items }
+    ensures made { grants.new.count ≡ grants.old.count }
     ensures registrations_room { OnOk result (0 < registrations.new.room) }
-    ensures challenges_room { OnOk result (0 < challenges.new.room) }
+    ensures challenges_room { OnOk result (HasRoom challenges.new) }
+    ensures grants_room { OnOk result (HasRoom grants.new) }
 {
     registrations.try_reserve()?;
-    challenges.try_reserve()
-}
-
-/// Puts a load in force, where there is one.
-fn put(in_force: &mut Loaded, loaded: Option<Loaded>)
-    ensures put { in_force.new ≡ option_map_or (λ l. l) loaded in_force.old }
-{
-    match loaded {
-        Some(loaded) => *in_force = loaded,
-        None => {}
-    }
+    challenges.try_reserve()?;
+    grants.try_reserve()
 }
 
 impl State {
@@ -62,34 +58,43 @@ impl State {
     {
         State {
             connections: Connections::start(alloc),
+            sent: SentCounts::start(alloc),
             registrations: Registrations::start(alloc),
             challenges: Challenges::start(alloc),
-            loaded: Loaded::empty(alloc),
+            grants: Grants::start(alloc),
         }
     }
 
-    /// Carries the state on by one item of this entry and this load, where it opens this challenge.
+    /// Carries the state on by one item of this entry and this load, where it opens this challenge and
+    /// makes this grant, in the world that was in force before it.
     ///
     /// A refusal leaves the state as it was.
     pub fn after(
         &mut self,
+        world: &World,
         entry: &Entry,
         loaded: Option<&Loaded>,
         opened: Option<Pending>,
+        granted: Option<GrantRow>,
     ) -> Result<(), NoMemory>
-        ensures ok { (past : List Item) → opened ≡ opened_by past (record { entry = entry.now; loaded = option_copied loaded.entry }) → IsStateOf past self.old → OnOk result (IsStateOf (record { entry = entry.now; loaded = option_copied loaded.entry } ∷ past) self.new) }
+        ensures ok { (past : List Item) → world.now ≡ world_of past → opened ≡ opened_by past (record { entry = entry.now; loaded = option_copied loaded.entry }) → granted ≡ granted_by past (record { entry = entry.now; loaded = option_copied loaded.entry }) → IsStateOf past self.old → OnOk result (IsStateOf (record { entry = entry.now; loaded = option_copied loaded.entry } ∷ past) self.new) }
         ensures err { OnErr result ((past : List Item) → IsStateOf past self.old → IsStateOf past self.new) }
     {
-        let world = &self.loaded.world;
-        let copy = copy_of(loaded)?;
         let made = self.registrations.made(&self.connections, world, entry)?;
         let ending = ending_of(&self.connections, world, entry, loaded);
         let response = response_in(&self.connections, entry);
-        reserve(&mut self.registrations, &mut self.challenges)?;
+        let revocation = revocation_of(&self.connections, world, entry);
+        reserve_rows(
+            &mut self.registrations,
+            &mut self.challenges,
+            &mut self.grants,
+        )?;
+        self.sent.try_reserve(entry.outputs.as_slice())?;
         self.connections.after(world, entry)?;
+        self.sent.add(entry.outputs.as_slice());
         self.registrations.change(ending, made);
         self.challenges.change(entry, ending, response, opened);
-        put(&mut self.loaded, copy);
+        self.grants.change(revocation, ending, granted);
         Ok(())
     }
 }
