@@ -1,5 +1,5 @@
 -- The lists of a history after one more item.
-use Rattle.std.proofs.Common.{◌≡◌, Bool, true, false, ◌||◌, not, List, [], ◌∷◌, ◌++◌, refl, ap, ◌∙◌, ◌&&◌, Option, Some, None, Result, Ok, Err, OnOk, IfOk}
+use Rattle.std.proofs.Common.{◌≡◌, ℕ, ◌+◌, length, Bool, true, false, ◌||◌, not, List, [], ◌∷◌, ◌++◌, refl, ap, ◌∙◌, ◌&&◌, Option, Some, None, Result, Ok, Err, OnOk, IfOk}
 use Rattle.std.specs.Prelude.{if◌then◌else◌, filter, map, option_to_list, option_and_then}
 use Rattle.pk_types.specs.declared.values.Identity.{Identity}
 use Rattle.authority_model.specs.declared.event.Call.{Call}
@@ -7,7 +7,7 @@ use Rattle.authority_model.specs.declared.pending.Pending.{Pending}
 use Rattle.authority_model.specs.Lists.{or_else}
 use Rattle.authority_model.specs.Words.{Bytes}
 use Rattle.authority_model.specs.Cookies.{cookie_text}
-use Rattle.authority_model.specs.Challenges.{pending, opened, closes, returns_to, responds, with_answer}
+use Rattle.authority_model.specs.Challenges.{pending, opened, opened_count, closes, returns_to, responds, with_answer}
 use Rattle.journal_state.specs.Closed.{cancels_by, closes_by, answer_by, response_of, marked}
 use Rattle.authority_model.specs.declared.journal.Item.{Item}
 use Rattle.authority_model.specs.declared.pending.Agent.{Agent}
@@ -97,3 +97,7 @@ none_marked (ch ∷ rows) = ap (λ o. record ch { answered = o } ∷ rows) (firs
 pub ok_alike : {A E : Type 0} (r : Result A E) (x y : A) → x ≡ y → IfOk r (λ z. z ≡ x) → IfOk r (λ z. z ≡ y)
 ok_alike (Ok z) x y e h = h ∙ e
 ok_alike (Err z) x y e h = h
+
+-- how many challenges were opened after one more item
+pub opened_next : (past : List Item) (i : Item) (count : ℕ) (new : Option Pending) → count ≡ opened_count past → new ≡ opened past i → count + length (option_to_list new) ≡ opened_count (i ∷ past)
+opened_next past i count new old opened_now = ap (λ o. count + length (option_to_list o)) opened_now ∙ ap (λ n. n + length (option_to_list (opened past i))) old

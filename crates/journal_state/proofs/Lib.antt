@@ -1,8 +1,9 @@
 pub mod Stepping
 pub mod Rising
 pub mod Living
-pub mod TooLarge
 pub mod Knowing
 pub mod Ends
 pub mod Changes
+pub mod Counting
+pub mod Revoking
 pub mod Endings

@@ -1,35 +1,34 @@
 // The challenges that are pending.
-ghost use Rattle.std.specs.Prelude.{◌≡◌, ◌<◌, ◌≤◌, ◌∷◌, ◌++◌, [], not, List, map, filter, option_to_list, vec_len, vec_capacity, OnOk, OnErr};
-ghost use Rattle.std.specs.Option.{option_copied, option_map, option_map_or};
+ghost use Rattle.std.specs.Prelude.{◌≡◌, ◌+◌, ◌<◌, ◌≤◌, ◌++◌, [], not, ◌==◌, ◌&&◌, List, map, filter, find, length, option_to_list, vec_len, vec_capacity, OnOk};
+ghost use Rattle.std.specs.Option.{option_copied, option_map};
 ghost use Rattle.authority_model.specs.declared.journal.Item.{Item};
-ghost use Rattle.authority_model.specs.Items.{world_of};
-ghost use Rattle.authority_model.specs.Peers.{call_in};
-ghost use Rattle.authority_model.specs.Challenges.{pending, opened as opened_by, serial_ended, cancels};
-ghost use Rattle.journal_state.specs.Connected.{Tells};
+ghost use Rattle.authority_model.specs.Challenges.{pending, opened_count, at_agent, serial_ended, cancels};
 ghost use Rattle.journal_state.specs.Closed.{returns_by, cancels_by, closes_by, marked, response_seen};
+ghost use Rattle.journal_state.specs.Tables.{HasRoom};
 
-use crate::connections::Connections;
-use crate::ending::{Ending, ending_of};
-use crate::response::{Response, mark_all, response_in};
-use authority_model::{Call, Entry, Event, Loaded, Pending, World};
+use crate::ending::Ending;
+use crate::response::{Response, mark_all};
+use crate::tables::count_with;
+use authority_model::{Call, Entry, Event, Pending};
 use pk_types::{NoMemory, Text};
 use std::alloc::Global;
 use std::marker::Model;
 
-/// The pending challenges, in the order of opening.
+/// The pending challenges, in the order of opening, and how many were ever opened.
 #[derive(Drop)]
 pub struct Challenges {
     rows: Vec<Pending>,
+    opened: u64,
 }
 
 impl Model for Challenges {
     ghost use Rattle.std.specs.Prelude.{◌-◌, vec_len, vec_capacity};
     ghost use Rattle.authority_model.specs.declared.pending.Pending.{Pending};
-    ghost use Rattle.pk_types.specs.Roomy.{Roomy};
+    ghost use Rattle.journal_state.specs.Tables.{Table};
 
-    ghost Value = { Roomy Pending };
+    ghost Value = { Table Pending };
 
-    ghost view = { λ a. record { items = a.rows.items; room = vec_capacity a.rows - vec_len a.rows } };
+    ghost view = { λ a. record { items = a.rows.items; room = vec_capacity a.rows - vec_len a.rows; count = a.opened } };
 }
 
 /// The serial that a return or an agent's error replies to.
@@ -138,13 +137,23 @@ fn change(
     }
 }
 
+/// The challenge of which a caller was sent the Begin with this serial, among these.
+fn find(rows: &[Pending], caller: u32, serial: u32) -> Option<&Pending>
+    ensures found { option_copied result ≡ find (λ ch. (ch.agent == caller) && (ch.agent_serial == serial)) rows.now }
+{
+    rows.iter()
+        .find(|row| row.agent == caller && row.agent_serial == serial)
+}
+
 impl Challenges {
     /// The challenges of the empty history. It takes no memory.
     pub fn start(alloc: Global) -> Challenges
         ensures empty { result.items ≡ pending [] }
+        ensures none { result.count ≡ opened_count [] }
     {
         Challenges {
             rows: Vec::new(alloc),
+            opened: 0,
         }
     }
 
@@ -155,11 +164,29 @@ impl Challenges {
         self.rows.as_slice()
     }
 
-    /// Takes room for one more challenge. A refusal leaves items and room as they were.
+    /// How many challenges were opened.
+    pub fn opened(&self) -> u64
+        ensures opened { result ≡ self.now.count }
+    {
+        self.opened
+    }
+
+    /// The pending challenge whose Begin was sent to this caller with this serial.
+    pub fn at_agent(&self, caller: u32, serial: u32) -> Option<&Pending>
+        ensures found { (past : List Item) → self.now.items ≡ pending past → option_copied result ≡ at_agent past caller serial }
+    {
+        find(self.rows.as_slice(), caller, serial)
+    }
+
+    /// Takes room for one more challenge. A refusal leaves the challenges as they were.
     pub fn try_reserve(&mut self) -> Result<(), NoMemory>
         ensures items { self.new.items ≡ self.old.items }
-        ensures ok { OnOk result (0 < self.new.room) }
+        ensures count { self.new.count ≡ self.old.count }
+        ensures ok { OnOk result (HasRoom self.new) }
     {
+        if self.opened == u64::MAX {
+            return Err(NoMemory);
+        }
         self.rows.reserve(1)?;
         Ok(())
     }
@@ -173,30 +200,11 @@ impl Challenges {
         response: Option<Response>,
         opened: Option<Pending>,
     )
-        requires room { 0 < self.old.room }
+        requires room { HasRoom self.old }
         ensures changed { self.new.items ≡ map (marked (option_map response_seen response.entry)) (filter (λ ch. not (closes_by entry.now ending.entry ch)) self.old.items) ++ option_to_list opened }
+        ensures counted { self.new.count ≡ self.old.count + length (option_to_list opened) }
     {
+        self.opened = count_with(self.opened, &opened);
         change(&mut self.rows, entry, ending, response, opened);
-    }
-
-    /// Carries the challenges on by one item, by the connections and the world before it, where the
-    /// item opens this challenge.
-    ///
-    /// A refusal leaves them as they were.
-    pub fn after(
-        &mut self,
-        connections: &Connections,
-        world: &World,
-        entry: &Entry,
-        loaded: Option<&Loaded>,
-        opened: Option<Pending>,
-    ) -> Result<(), NoMemory>
-        ensures ok { (past : List Item) → Tells connections.now past → world.now ≡ world_of past → opened ≡ opened_by past (record { entry = entry.now; loaded = option_copied loaded.entry }) → self.old.items ≡ pending past → OnOk result (self.new.items ≡ pending (record { entry = entry.now; loaded = option_copied loaded.entry } ∷ past)) }
-        ensures err { OnErr result (self.new.items ≡ self.old.items) }
-    {
-        self.try_reserve()?;
-        let ending = ending_of(connections, world, entry, loaded);
-        self.change(entry, ending, response_in(connections, entry), opened);
-        Ok(())
     }
 }

@@ -1,6 +1,6 @@
-// The texts of cookies.
+// The texts of cookies and of grants.
 ghost use Rattle.std.specs.Prelude.{◌≡◌, ◌<◌, ◌++◌, ◌∷◌, [], ℕ, List, false, MatchOption, bytes_eq, codes, decimal};
-ghost use Rattle.authority_model.specs.Cookies.{hex, hex_digit, cookie_text};
+ghost use Rattle.authority_model.specs.Cookies.{hex, hex_digit, cookie_text, grant_text};
 
 use authority_model::Cookie;
 use pk_types::Text;
@@ -63,8 +63,18 @@ fn is_numbered(text: &[u8], serial: u64, digits: u8, n: u128) -> bool
 }
 
 /// Whether a text is a cookie's: its serial, a dash, and its random word in 32 hexadecimal digits.
-pub fn is_text_of(cookie: Cookie, text: &Text) -> bool
+pub fn is_cookie_text(cookie: Cookie, text: &Text) -> bool
     ensures is { result ≡ bytes_eq (cookie_text cookie) text.now }
 {
     is_numbered(text.bytes(), cookie.serial, 32, cookie.salt)
+}
+
+/// Whether a text is that of a grant's number: `tmpauthz` and the number.
+pub fn is_grant_text(id: u64, text: &Text) -> bool
+    ensures is { result ≡ bytes_eq text.now (grant_text id) }
+{
+    match text.bytes().strip_prefix(b"tmpauthz") {
+        Some(digits) => is_decimal(digits, id),
+        None => false,
+    }
 }

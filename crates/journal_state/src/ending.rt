@@ -3,17 +3,15 @@ ghost use Rattle.std.specs.Prelude.{◌≡◌, List};
 ghost use Rattle.std.specs.Option.{option_copied, option_map};
 ghost use Rattle.authority_model.specs.declared.journal.Item.{Item};
 ghost use Rattle.authority_model.specs.Items.{world_of};
-ghost use Rattle.authority_model.specs.Keys.{key_seen};
-ghost use Rattle.authority_model.specs.Subjects.{key_of};
 ghost use Rattle.authority_model.specs.Peers.{is_depart};
 ghost use Rattle.journal_state.specs.Connected.{Tells};
 ghost use Rattle.journal_state.specs.Ended.{IsEnding, ends_caller, ends_registration, ends_key, unregistered_seen, unregistered_by, unregistered_in};
 
 use crate::connections::Connections;
 use crate::keys::is_key;
-use crate::subjects::facts_of;
+use crate::subjects::key_of;
 use authority_model::{Call, Entry, Event, Key, KeyRef, Loaded, World};
-use pk_types::{Subject, Text};
+use pk_types::Text;
 use subject_table::lists_key;
 
 /// The key and the path of a registration.
@@ -33,16 +31,6 @@ pub struct Ending<'a> {
     pub unregisters: Option<Unregistered<'a>>,
     /// The world of a load: a key that it does not list is gone.
     pub loads: Option<&'a World>,
-}
-
-/// The key of a subject after a history.
-fn key_of<'a>(connections: &Connections, world: &'a World, subject: &Subject) -> Option<KeyRef<'a>>
-    ensures key { (past : List Item) → Tells connections.now past → world.now ≡ world_of past → option_map key_seen result ≡ key_of past subject.now }
-{
-    match facts_of(connections, world, subject) {
-        Some(facts) => Some(facts.key),
-        None => None,
-    }
 }
 
 /// What a call unregisters.

@@ -13,10 +13,10 @@ ghost use Rattle.journal_state.specs.Connected.{Tells};
 ghost use Rattle.journal_state.specs.Ended.{ends_agent};
 
 use crate::connections::Connections;
-use crate::ending::{Ending, ending_of};
+use crate::ending::Ending;
 use crate::keys::{is_key, owned};
 use crate::subjects::facts_of;
-use authority_model::{Agent, Call, Entry, Event, Facts, KeyRef, Loaded, World};
+use authority_model::{Agent, Call, Entry, Event, Facts, KeyRef, World};
 use pk_types::{NoMemory, Text};
 use std::alloc::Global;
 use std::marker::Model;
@@ -213,24 +213,5 @@ impl Registrations {
         ensures changed { self.new.items ≡ filter (λ a. not (ends_agent ending.entry a)) self.old.items ++ option_to_list made }
     {
         change(&mut self.rows, ending, made);
-    }
-
-    /// Carries the registrations on by one item, by the connections and the world before it.
-    ///
-    /// A refusal leaves them as they were.
-    pub fn after(
-        &mut self,
-        connections: &Connections,
-        world: &World,
-        entry: &Entry,
-        loaded: Option<&Loaded>,
-    ) -> Result<(), NoMemory>
-        ensures ok { (past : List Item) → Tells connections.now past → world.now ≡ world_of past → self.old.items ≡ in_force past → OnOk result (self.new.items ≡ in_force (record { entry = entry.now; loaded = option_copied loaded.entry } ∷ past)) }
-        ensures err { OnErr result (self.new.items ≡ self.old.items) }
-    {
-        let made = self.made(connections, world, entry)?;
-        self.try_reserve()?;
-        self.change(ending_of(connections, world, entry, loaded), made);
-        Ok(())
     }
 }

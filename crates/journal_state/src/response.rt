@@ -9,7 +9,7 @@ ghost use Rattle.journal_state.specs.Connected.{Tells};
 ghost use Rattle.journal_state.specs.Closed.{response_seen, response_of, answer_by, marked};
 
 use crate::connections::Connections;
-use crate::cookies::is_text_of;
+use crate::cookies::is_cookie_text;
 use authority_model::{Call, Entry, Event, Pending};
 use pk_types::{Identity, Text};
 
@@ -67,7 +67,7 @@ fn stands_among(identity: Identity, offered: &[Identity]) -> bool
 fn answer(row: &Pending, response: Response) -> Option<Identity>
     ensures answer { result ≡ answer_by row.now (response_seen response.entry) }
 {
-    if is_text_of(row.cookie, response.cookie)
+    if is_cookie_text(row.cookie, response.cookie)
         && stands_among(response.identity, row.identities.as_slice())
     {
         Some(response.identity)

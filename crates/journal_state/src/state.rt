@@ -1,15 +1,23 @@
 // The state of a history.
-ghost use Rattle.std.specs.Prelude.{◌≡◌, ◌≤◌, ◌^◌, ◌∷◌, [], List, length, OnOk, OnErr};
+ghost use Rattle.std.specs.Prelude.{◌≡◌, ◌<◌, ◌∷◌, [], List, OnOk, OnErr};
 ghost use Rattle.std.specs.Option.{option_copied};
 ghost use Rattle.authority_model.specs.declared.journal.Item.{Item};
-ghost use Rattle.authority_model.specs.Items.{loaded_of};
-ghost use Rattle.authority_model.specs.Small.{IsShort};
+ghost use Rattle.authority_model.specs.Items.{world_of};
+ghost use Rattle.authority_model.specs.Challenges.{opened as opened_by};
+ghost use Rattle.authority_model.specs.Grants.{granted as granted_by};
+ghost use Rattle.journal_state.specs.Counted.{Counts, CanCountAll};
 ghost use Rattle.journal_state.specs.States.{IsStateOf};
+ghost use Rattle.journal_state.specs.Tables.{HasRoom};
 
 use crate::challenges::Challenges;
 use crate::connections::Connections;
+use crate::ending::ending_of;
+use crate::grants::Grants;
 use crate::registrations::Registrations;
-use authority_model::{Entry, Loaded};
+use crate::response::response_in;
+use crate::revocation::revocation_of;
+use crate::sent::SentCounts;
+use authority_model::{Entry, GrantRow, Loaded, Output, Pending, World};
 use pk_types::NoMemory;
 use std::alloc::Global;
 
@@ -17,8 +25,30 @@ use std::alloc::Global;
 #[derive(Drop)]
 pub struct State {
     pub connections: Connections,
+    pub sent: SentCounts,
     pub registrations: Registrations,
     pub challenges: Challenges,
+    pub grants: Grants,
+}
+
+/// Takes room for one more row of each table.
+fn reserve_rows(
+    registrations: &mut Registrations,
+    challenges: &mut Challenges,
+    grants: &mut Grants,
+) -> Result<(), NoMemory>
+    ensures registrations { registrations.new.items ≡ registrations.old.items }
+    ensures challenges { challenges.new.items ≡ challenges.old.items }
+    ensures opened { challenges.new.count ≡ challenges.old.count }
+    ensures grants { grants.new.items ≡ grants.old.items }
+    ensures made { grants.new.count ≡ grants.old.count }
+    ensures registrations_room { OnOk result (0 < registrations.new.room) }
+    ensures challenges_room { OnOk result (HasRoom challenges.new) }
+    ensures grants_room { OnOk result (HasRoom grants.new) }
+{
+    registrations.try_reserve()?;
+    challenges.try_reserve()?;
+    grants.try_reserve()
 }
 
 impl State {
@@ -28,26 +58,43 @@ impl State {
     {
         State {
             connections: Connections::start(alloc),
+            sent: SentCounts::start(alloc),
             registrations: Registrations::start(alloc),
             challenges: Challenges::start(alloc),
+            grants: Grants::start(alloc),
         }
     }
 
-    /// Carries the state on by one item of this entry and this load.
+    /// Carries the state on by one item of this entry and this load, where it opens this challenge and
+    /// makes this grant, in the world that was in force before it.
     ///
     /// A refusal leaves the state as it was.
     pub fn after(
         &mut self,
-        in_force: &Loaded,
-        place: u64,
+        world: &World,
         entry: &Entry,
         loaded: Option<&Loaded>,
+        opened: Option<Pending>,
+        granted: Option<GrantRow>,
     ) -> Result<(), NoMemory>
-        requires entries { IsShort in_force.now.policy.entries }
-        requires moment { entry.now.moment ≤ 2 ^ 62 }
-        ensures ok { (past : List Item) → in_force.now ≡ loaded_of past → place ≡ length past → IsStateOf past self.old → OnOk result (IsStateOf (record { entry = entry.now; loaded = option_copied loaded.entry } ∷ past) self.new) }
+        ensures ok { (past : List Item) → world.now ≡ world_of past → opened ≡ opened_by past (record { entry = entry.now; loaded = option_copied loaded.entry }) → granted ≡ granted_by past (record { entry = entry.now; loaded = option_copied loaded.entry }) → IsStateOf past self.old → OnOk result (IsStateOf (record { entry = entry.now; loaded = option_copied loaded.entry } ∷ past) self.new) }
         ensures err { OnErr result ((past : List Item) → IsStateOf past self.old → IsStateOf past self.new) }
     {
-        Err(NoMemory)
+        let made = self.registrations.made(&self.connections, world, entry)?;
+        let ending = ending_of(&self.connections, world, entry, loaded);
+        let response = response_in(&self.connections, entry);
+        let revocation = revocation_of(&self.connections, world, entry);
+        reserve_rows(
+            &mut self.registrations,
+            &mut self.challenges,
+            &mut self.grants,
+        )?;
+        self.sent.try_reserve(entry.outputs.as_slice())?;
+        self.connections.after(world, entry)?;
+        self.sent.add(entry.outputs.as_slice());
+        self.registrations.change(ending, made);
+        self.challenges.change(entry, ending, response, opened);
+        self.grants.change(revocation, ending, granted);
+        Ok(())
     }
 }

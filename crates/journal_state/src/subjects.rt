@@ -4,12 +4,13 @@ ghost use Rattle.std.specs.Option.{option_map};
 ghost use Rattle.authority_model.specs.declared.journal.Item.{Item};
 ghost use Rattle.authority_model.specs.Items.{world_of};
 ghost use Rattle.authority_model.specs.Facts.{facts_seen};
-ghost use Rattle.authority_model.specs.Subjects.{facts as facts_after};
+ghost use Rattle.authority_model.specs.Keys.{key_seen};
+ghost use Rattle.authority_model.specs.Subjects.{facts as facts_after, key_of};
 ghost use Rattle.journal_state.specs.Connected.{Tells, announced_by};
 
 use crate::connections::Connections;
 use crate::names::caller_of;
-use authority_model::{Facts, World};
+use authority_model::{Facts, KeyRef, World};
 use pk_types::Subject;
 use subject_table::facts;
 
@@ -37,4 +38,18 @@ pub fn facts_of<'a>(
     ensures facts { (past : List Item) → Tells connections.now past → world.now ≡ world_of past → option_map facts_seen result ≡ facts_after past subject.now }
 {
     facts(world, announced(connections, subject), subject)
+}
+
+/// The key of a subject, by the connections and the world after a history.
+pub fn key_of<'a>(
+    connections: &Connections,
+    world: &'a World,
+    subject: &Subject,
+) -> Option<KeyRef<'a>>
+    ensures key { (past : List Item) → Tells connections.now past → world.now ≡ world_of past → option_map key_seen result ≡ key_of past subject.now }
+{
+    match facts_of(connections, world, subject) {
+        Some(facts) => Some(facts.key),
+        None => None,
+    }
 }
