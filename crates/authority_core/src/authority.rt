@@ -5,13 +5,16 @@ ghost use Rattle.authority_model.specs.declared.journal.History.{History as TheH
 ghost use Rattle.authority_model.specs.Items.{items_of, policy_of};
 ghost use Rattle.authority_model.specs.Legal.{IsLegal, last_moment};
 ghost use Rattle.authority_model.specs.Licensed.{AllLicensed};
+ghost use Rattle.authority_model.specs.Deciding.{decision as decision_on, told_decision};
+ghost use Rattle.authority_model.specs.Grants.{kept};
 ghost use Rattle.authority_model.specs.Given.{IsStepped, event_given, load_given, next, Grows};
 
 use crate::entering::{enter, enter_load, load_in_force, next_load};
-use authority_model::{Entry, Event, History, Loaded};
+use authority_model::{Decision, Entry, Event, History, Loaded};
+use check_decision::ruling;
 use journal_answers::{load_outputs, outputs};
-use journal_state::State;
-use pk_types::{List, NoMemory};
+use journal_state::{State, facts_of};
+use pk_types::{List, NoMemory, Subject, Text};
 use std::alloc::Global;
 use std::marker::Model;
 
@@ -215,6 +218,22 @@ impl Authority {
                 Ok(place as u64)
             }
             Err(loaded) => Err(LoadStepRefused::NoMemory { loaded }),
+        }
+    }
+
+    /// What a check of a subject would be told without a challenge, at this moment or the journal's
+    /// greatest, whichever is greater. `None` exactly where the action is unknown or nothing is known
+    /// of the subject.
+    pub fn decide(&self, moment: u64, subject: &Subject, id: &Text) -> Option<Decision>
+        ensures decision { result ≡ option_map (told_decision (policy_of (items_of self.now))) (decision_on (items_of self.now) (kept (items_of self.now)) (max (last_moment (items_of self.now)) moment) subject.now id.now) }
+    {
+        let in_force = load_in_force(self.history.loads.as_slice(), &self.empty);
+        let facts = facts_of(&self.state.connections, &in_force.world, subject)?;
+        let moment = self.moment.max(moment);
+        let grants = self.state.grants.as_slice();
+        match ruling(in_force, grants, &facts, moment, id) {
+            Some(ruling) => Some(ruling.told(&in_force.policy)),
+            None => None,
         }
     }
 }

@@ -224,7 +224,15 @@ fn a_later_load_is_told_to_live_callers(rt: HostRuntime) -> Result<(), Fail> {
     };
     assert!(rt; entry.moment == 5 && entry.outputs.len() == 1);
     assert!(rt; matches!(&entry.event, Event::Load { load: 2 }));
-    assert!(rt; authority.decide(0, &Subject::Process { pid: 1, start: 1 }, &Text::try_from_bytes(alloc, b"a.no")?).is_none());
+    assert!(rt;
+        authority
+            .decide(
+                0,
+                &Subject::Process { pid: 1, start: 1 },
+                &Text::try_from_bytes(alloc, b"a.no")?
+            )
+            .is_none()
+    );
     Ok(())
 }
 
