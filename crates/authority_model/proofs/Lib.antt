@@ -8,3 +8,4 @@ pub mod Cases
 pub mod Pairing
 pub mod LastLoad
 pub mod FirstPlace
+pub mod Fronts

@@ -6,6 +6,7 @@ pub mod Worlds
 pub mod Facts
 pub mod Admins
 pub mod Rules
+pub mod Identities
 pub mod Items
 pub mod Peers
 pub mod Subjects

@@ -8,6 +8,7 @@
 mod copies;
 mod event;
 mod facts;
+mod identities;
 mod journal;
 mod key;
 mod load;
@@ -22,6 +23,7 @@ mod world;
 
 pub use event::{Call, Event};
 pub use facts::Facts;
+pub use identities::IdentityFault;
 pub use journal::{Entry, EntryList, History, Item};
 pub use key::{Key, KeyRef};
 pub use load::{FileFault, FileFaultList, Loaded, LoadedList};

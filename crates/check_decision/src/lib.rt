@@ -10,11 +10,15 @@ mod decide;
 mod grants;
 mod implying;
 mod order;
+mod owners;
 mod rulings;
+#[cfg(test)]
+mod tests;
 mod values;
 mod verdicts;
 mod words;
 
 pub use decide::ruling;
+pub use owners::owns;
 pub use rulings::Ruling;
 pub use verdicts::{no, verdict};

@@ -5,5 +5,6 @@ pub mod Knowing
 pub mod Ends
 pub mod Changes
 pub mod Counting
+pub mod Beginning
 pub mod Revoking
 pub mod Endings

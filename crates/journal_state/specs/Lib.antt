@@ -4,4 +4,5 @@ pub mod Closed
 pub mod Tables
 pub mod Counted
 pub mod Revoked
+pub mod Opening
 pub mod States

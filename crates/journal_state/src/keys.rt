@@ -41,3 +41,20 @@ pub fn owned(seen: KeyRef) -> Result<Key, NoMemory>
         }
     }
 }
+
+/// A copy of a key.
+pub fn copied(key: &Key) -> Result<Key, NoMemory>
+    ensures key { IfOk result (λ copy. copy ≡ key.now) }
+{
+    match key {
+        Key::Process { pid, start, uid } => Ok(Key::Process {
+            pid: *pid,
+            start: *start,
+            uid: *uid,
+        }),
+        Key::Session { id, uid } => {
+            let id = id.try_copy()?;
+            Ok(Key::Session { id, uid: *uid })
+        }
+    }
+}

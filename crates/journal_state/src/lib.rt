@@ -11,6 +11,7 @@ mod ending;
 mod grants;
 mod keys;
 mod names;
+mod opening;
 mod registrations;
 mod response;
 mod revocation;

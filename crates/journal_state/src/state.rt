@@ -1,11 +1,11 @@
 // The state of a history.
-ghost use Rattle.std.specs.Prelude.{◌≡◌, ◌<◌, ◌∷◌, [], List, OnOk, OnErr};
+ghost use Rattle.std.specs.Prelude.{◌≡◌, ◌<◌, ◌∷◌, [], List, length, OnOk, OnErr};
 ghost use Rattle.std.specs.Option.{option_copied};
 ghost use Rattle.authority_model.specs.declared.journal.Item.{Item};
-ghost use Rattle.authority_model.specs.Items.{world_of};
+ghost use Rattle.authority_model.specs.Items.{loaded_of, world_of};
+ghost use Rattle.authority_model.specs.Small.{IsShort};
 ghost use Rattle.authority_model.specs.Challenges.{opened as opened_by};
 ghost use Rattle.authority_model.specs.Grants.{granted as granted_by};
-ghost use Rattle.journal_state.specs.Counted.{Counts, CanCountAll};
 ghost use Rattle.journal_state.specs.States.{IsStateOf};
 ghost use Rattle.journal_state.specs.Tables.{HasRoom};
 
@@ -13,11 +13,12 @@ use crate::challenges::Challenges;
 use crate::connections::Connections;
 use crate::ending::ending_of;
 use crate::grants::Grants;
+use crate::opening::opened;
 use crate::registrations::Registrations;
 use crate::response::response_in;
 use crate::revocation::revocation_of;
 use crate::sent::SentCounts;
-use authority_model::{Entry, GrantRow, Loaded, Output, Pending, World};
+use authority_model::{Entry, GrantRow, Loaded, Pending, World};
 use pk_types::NoMemory;
 use std::alloc::Global;
 
@@ -65,11 +66,29 @@ impl State {
         }
     }
 
-    /// Carries the state on by one item of this entry and this load, where it opens this challenge and
-    /// makes this grant, in the world that was in force before it.
+    /// Carries the state on by one item of this entry and this load, by the load in force before it.
+    /// The entry's place in the journal is counted from 0.
     ///
     /// A refusal leaves the state as it was.
     pub fn after(
+        &mut self,
+        in_force: &Loaded,
+        place: u64,
+        entry: &Entry,
+        loaded: Option<&Loaded>,
+        granted: Option<GrantRow>,
+    ) -> Result<(), NoMemory>
+        requires entries { IsShort in_force.now.policy.entries }
+        ensures ok { (past : List Item) → in_force.now ≡ loaded_of past → place ≡ length past → granted ≡ granted_by past (record { entry = entry.now; loaded = option_copied loaded.entry }) → IsStateOf past self.old → OnOk result (IsStateOf (record { entry = entry.now; loaded = option_copied loaded.entry } ∷ past) self.new) }
+        ensures err { OnErr result ((past : List Item) → IsStateOf past self.old → IsStateOf past self.new) }
+    {
+        let opened = opened(self, in_force, place, entry)?;
+        self.carry(&in_force.world, entry, loaded, opened, granted)
+    }
+
+    /// The same, where the item opens this challenge and makes this grant, in the world in force before
+    /// it.
+    fn carry(
         &mut self,
         world: &World,
         entry: &Entry,

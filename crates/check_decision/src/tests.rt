@@ -1,0 +1,123 @@
+// Each public call once, with ample memory. What is wanted is said by polkit(8).
+ghost use Rattle.std.specs.Prelude.{IfOk};
+ghost use Rattle.authority_model.specs.Small.{IsShort};
+
+use crate::ruling;
+use authority_model::{
+    Action, ActionList, Decision, Facts, GrantRow, Key, KeyRef, Loaded, RuleSource,
+};
+use pk_types::{ActionId, Category, Implicit, List, Pair, Text};
+use std::alloc::Global;
+use std::test::Fail;
+
+const ACTIVE: RuleSource = RuleSource::Default(Category::Active);
+
+fn text(alloc: Global, bytes: &str) -> Result<Text, Fail> {
+    Ok(Text::try_from_bytes(alloc, bytes.as_bytes())?)
+}
+
+/// An action with one annotation.
+fn action(
+    alloc: Global,
+    id: &str,
+    value: Implicit,
+    key: &str,
+    words: &str,
+) -> Result<Action, Fail> {
+    let mut annotations = List::new(alloc);
+    annotations.try_push(Pair {
+        key: text(alloc, key)?,
+        value: text(alloc, words)?,
+    })?;
+    Ok(Action {
+        id: ActionId::read(&text(alloc, id)?)?,
+        descriptions: List::new(alloc),
+        messages: List::new(alloc),
+        vendor: Text::new(alloc),
+        vendor_url: Text::new(alloc),
+        icon: Text::new(alloc),
+        any: Implicit::No,
+        inactive: Implicit::No,
+        active: value,
+        annotations,
+    })
+}
+
+fn actions(alloc: Global) -> Result<ActionList, Fail>
+    ensures short { IfOk result (λ actions. IsShort actions) }
+{
+    let owner = "org.freedesktop.policykit.owner";
+    let imply = "org.freedesktop.policykit.imply";
+    let mut actions = List::new(alloc);
+    actions.try_push(action(
+        alloc,
+        "a.keep",
+        Implicit::AuthSelfKeep,
+        owner,
+        "unix-user:7",
+    )?)?;
+    actions.try_push(action(alloc, "z.main", Implicit::Yes, imply, "a.part a.other")?)?;
+    actions.try_push(action(alloc, "b.main", Implicit::Yes, imply, " a.other\ta.part ")?)?;
+    actions.try_push(action(alloc, "a.main", Implicit::AuthSelf, imply, "a.part")?)?;
+    actions.try_push(action(alloc, "a.part", Implicit::AuthAdmin, owner, "")?)?;
+    Ok(actions)
+}
+
+fn load(alloc: Global) -> Result<Loaded, Fail>
+    ensures actions { IfOk result (λ l. IsShort l.policy.actions) }
+    ensures entries { IfOk result (λ l. IsShort l.policy.entries) }
+{
+    let mut loaded = Loaded::empty(alloc);
+    loaded.policy.actions = actions(alloc)?;
+    Ok(loaded)
+}
+
+/// The grant that makes a process of this user yes until second 305.
+fn grant(alloc: Global, uid: u32) -> Result<GrantRow, Fail> {
+    Ok(GrantRow {
+        id: 4,
+        action: text(alloc, "a.keep")?,
+        key: Key::Process {
+            pid: 50,
+            start: 7,
+            uid,
+        },
+        obtained: 5,
+        expires: 305,
+    })
+}
+
+/// What is decided of a process of this user, where uid 1000 has the grant.
+fn decided(alloc: Global, uid: u32, moment: u64, id: &str) -> Result<Option<Decision>, Fail> {
+    let loaded = load(alloc)?;
+    let grants = [grant(alloc, 1000)?];
+    let facts = Facts {
+        uid,
+        category: Category::Active,
+        key: KeyRef::Process {
+            pid: 50,
+            start: 7,
+            uid,
+        },
+        session: None,
+    };
+    let id = text(alloc, id)?;
+    Ok(match ruling(&loaded, &grants, &facts, moment, &id) {
+        Some(ruling) => Some(ruling.told(&loaded.policy)),
+        None => None,
+    })
+}
+
+#[test]
+fn checks_are_decided(rt: HostRuntime) -> Result<(), Fail> {
+    let alloc = rt.alloc();
+    let asked = Decision::Challenge(Implicit::AuthSelfKeep, ACTIVE);
+    assert!(rt; decided(alloc, 0, 5, "a.keep")? == Some(Decision::Root));
+    assert!(rt; decided(alloc, 1000, 304, "a.keep")? == Some(Decision::Grant(4)));
+    assert!(rt; decided(alloc, 1000, 305, "a.keep")? == Some(asked));
+    assert!(rt; decided(alloc, 1001, 5, "a.keep")? == Some(asked));
+    assert!(rt; decided(alloc, 1000, 5, "z.main")? == Some(Decision::Yes(ACTIVE)));
+    assert!(rt; decided(alloc, 1000, 5, "a.part")? == Some(Decision::Imply(2)));
+    assert!(rt; decided(alloc, 1000, 5, "a.none")? == None);
+    Ok(())
+}
