@@ -13,17 +13,22 @@ use pk_types::Text;
 pub enum StationRefused {
     /// The station failed, and counted it.
     Failed,
+    /// Memory was refused.
     NoMemory,
 }
 
 /// Makes doors, links, clocks and random words, and takes them back.
 pub trait Station: Drop + Send {
+    /// The doors that it makes.
     type Door: Door;
 
+    /// The links that it dials.
     type Link: Link;
 
+    /// The clocks that it makes.
     type Clock: Clock;
 
+    /// The givers of random words that it makes.
     type Salt: Salt;
 
     /// What it will give and what came back, where they are told.
