@@ -112,7 +112,8 @@ pub fn replay<T: Tree, I: Source, O: Sink>(
     requires root { IsNone root }
     requires limits { (limits.entries ≤ 1048576) × (limits.bytes ≤ 536870912) }
 
-    // What is written is the text of the legal history that the bytes read make, as far as the status says.
+    // What is written is the text of the legal history that the bytes read make, as far as the
+    // status says.
     ensures run { Replays (I.left input.old) (I.left input.new) (I.ended input.new) (O.held output.old) (O.held output.new) result }
 
     // A fault of the outside is told only where the object counted it.
