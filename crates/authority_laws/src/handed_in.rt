@@ -8,8 +8,8 @@ ghost use Rattle.authority_model.specs.Legal.{IsLegal, Legal};
 ghost use Rattle.authority_model.specs.Given.{Given, IsHistoryOf, IsProper, history_of};
 
 /// For each list of callers, moments, random words, and events or loads there is exactly one legal
-/// history that has them, in this order, where each moment is the greatest handed in so far; and it is
-/// the history of exactly one legal journal.
+/// history that has them, in this order, where each moment is the greatest handed in so far; and it
+/// is the history of exactly one legal journal.
 pub fn one_history()
     ensures is_legal { (given : List Given) → Each IsProper given → Legal (history_of given) }
     ensures is_of { (given : List Given) → Each IsProper given → IsHistoryOf (history_of given) given }

@@ -1,7 +1,9 @@
-//! Laws about the definitions of `authority_model`, each the clause of a function that does nothing.
+//! Laws about the definitions of `authority_model`, each the clause of a function that does
+//! nothing.
 //!
-//! A law speaks of lists of items, the newest first, as the definitions see a history: each item is an
-//! entry of the journal with the load that it names. What stands behind an item is the history before it.
+//! A law speaks of lists of items, the newest first, as the definitions see a history: each item is
+//! an entry of the journal with the load that it names. What stands behind an item is the history
+//! before it.
 #![tactic(auto)]
 
 mod costs;

@@ -17,8 +17,9 @@ pub fn one_registration_a_key()
     ensures by_key { (past : List Item) (key : Key) → AtMostOne (λ a. same_key a.key key) (in_force past) }
 {}
 
-/// A search for a pending challenge finds the only one there is: by its agent and the serial that the
-/// agent was asked with, by the number or the text of its cookie, or by its asker and cancellation id.
+/// A search for a pending challenge finds the only one there is: by its agent and the serial that
+/// the agent was asked with, by the number or the text of its cookie, or by its asker and
+/// cancellation id.
 ///
 /// That the text of a cookie tells challenges apart is said of histories of fewer than 2^63 items.
 pub fn one_challenge_found()

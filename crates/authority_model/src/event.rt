@@ -2,8 +2,8 @@
 use crate::ErrorCause;
 use pk_types::{Identity, PairList, Subject, Text};
 
-/// A call of a connection: a method of the interface org.freedesktop.PolicyKit1.Authority, or one of
-/// this project's own interface (Announce and Reload).
+/// A call of a connection: a method of the interface org.freedesktop.PolicyKit1.Authority, or one
+/// of this project's own interface (Announce and Reload).
 #[derive(Drop)]
 pub enum Call {
     /// The caller says which process it is.

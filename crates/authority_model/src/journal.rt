@@ -12,9 +12,11 @@ pub struct Entry {
     /// The random word of a challenge that the entry opens.
     pub salt: u128,
     pub event: Event,
+    /// The messages that the event causes, in the order in which they are sent.
     pub outputs: OutputList,
 }
 
+/// A list of entries.
 pub type EntryList = List<Entry>;
 
 /// An entry with the load that it names.
@@ -29,5 +31,6 @@ pub struct Item {
 #[derive(Drop)]
 pub struct History {
     pub entries: EntryList,
+    /// The loads by their numbers, the first of which is 1.
     pub loads: LoadedList,
 }

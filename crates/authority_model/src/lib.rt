@@ -1,7 +1,7 @@
 //! The public types of the authority, and the definitions that every contract above cites.
 //!
-//! The types say what a policy, a world, an event and a history are. `specs/` says, over them, who is
-//! connected, which agent is in force, which challenge is pending, which grant is live, what is
+//! The types say what a policy, a world, an event and a history are. `specs/` says, over them, who
+//! is connected, which agent is in force, which challenge is pending, which grant is live, what is
 //! decided, and what each event is answered. Nothing here decides anything itself.
 #![tactic(auto)]
 

@@ -16,6 +16,7 @@ pub struct FileFault {
     pub at: u64,
 }
 
+/// A list of what was skipped.
 pub type FileFaultList = List<FileFault>;
 
 /// One load: a policy and a world, and what was skipped.
@@ -25,9 +26,11 @@ pub type FileFaultList = List<FileFault>;
 pub struct Loaded {
     pub policy: Policy,
     pub world: World,
+    /// What was skipped.
     pub faults: FileFaultList,
 }
 
+/// A list of loads.
 pub type LoadedList = List<Loaded>;
 
 impl Loaded {

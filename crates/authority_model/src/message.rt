@@ -10,7 +10,9 @@ use pk_types::{IdentityList, List, PairList, Text};
 pub enum ErrorCause {
     /// The caller has a pending check with this cancellation id.
     IdInUse,
+    /// The policy in force has no action of that id.
     UnknownAction,
+    /// The subject is not known.
     UnknownSubject,
     /// The caller may not ask about the subject, or may not hand in details.
     NotTrusted,
@@ -22,17 +24,23 @@ pub enum ErrorCause {
     NoSuchId,
     /// Only uid 0 may do this.
     NotPrivileged,
+    /// No pending challenge has this cookie.
     NoSuchCookie,
     /// The identity was not offered to the agent.
     NotOffered,
     /// An agent is registered for the subject.
     AgentExists,
+    /// The subject has no agent of this caller at this path.
     NoSuchAgent,
     /// The subject or the grant belongs to another user.
     NotYours,
+    /// No live grant has this id.
     NoSuchGrant,
+    /// No object stands at this path.
     UnknownObject,
+    /// The object has no such method.
     UnknownMethod,
+    /// The arguments are not those of the method.
     InvalidArgs,
     /// The announced process is not listed for this user.
     BadAnnounce,
@@ -41,13 +49,17 @@ pub enum ErrorCause {
 /// What a call is answered.
 #[derive(Drop)]
 pub enum Answer {
+    /// The answer to a check.
     Verdict(Verdict),
+    /// The call was done.
     Done,
     /// A bus name.
     Name(Text),
     /// The actions of this load, with their texts for this locale.
     Actions { load: u32, locale: Text },
+    /// The live grants of a subject.
     Grants(GrantRowList),
+    /// The call is refused for this cause.
     Refused(ErrorCause),
 }
 
@@ -93,4 +105,5 @@ pub struct Output {
     pub message: Message,
 }
 
+/// A list of messages with their receivers.
 pub type OutputList = List<Output>;

@@ -11,6 +11,7 @@ pub struct Localized {
     pub text: Text,
 }
 
+/// A list of texts, each in its language.
 pub type LocalizedList = List<Localized>;
 
 /// An action that a caller may ask about.
@@ -19,10 +20,13 @@ pub type LocalizedList = List<Localized>;
 #[derive(Drop)]
 pub struct Action {
     pub id: ActionId,
+    /// What the action does.
     pub descriptions: LocalizedList,
     /// What an agent shows while it asks.
     pub messages: LocalizedList,
+    /// The name of the vendor; empty where there is none.
     pub vendor: Text,
+    /// The address of the vendor's page; empty where there is none.
     pub vendor_url: Text,
     /// The name of an icon; empty where there is none.
     pub icon: Text,
@@ -36,6 +40,7 @@ pub struct Action {
     pub annotations: PairList,
 }
 
+/// A list of actions.
 pub type ActionList = List<Action>;
 
 /// A rule of the local authority, which may override the defaults of actions.
@@ -57,6 +62,7 @@ pub struct RuleEntry {
     pub pairs: PairList,
 }
 
+/// A list of rules.
 pub type RuleList = List<RuleEntry>;
 
 /// Actions, rules and administrators.

@@ -58,7 +58,9 @@ pub enum Reason {
 /// What names a challenge: its number, counted from 1, and a random word.
 #[derive(Clone, Copy, Debug, PartialEq, Eq)]
 pub struct Cookie {
+    /// The number of the challenge, counted from 1.
     pub serial: u64,
+    /// The random word of the entry that opened it.
     pub salt: u128,
 }
 
@@ -93,4 +95,5 @@ pub struct GrantRow {
     pub expires: u64,
 }
 
+/// A list of grants.
 pub type GrantRowList = List<GrantRow>;

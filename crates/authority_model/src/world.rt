@@ -1,6 +1,7 @@
 // The world: users, groups, sessions and processes.
 use pk_types::{List, Text};
 
+/// A list of the numbers of groups.
 pub type GidList = List<u32>;
 
 /// A user.
@@ -14,6 +15,7 @@ pub struct User {
     pub gids: GidList,
 }
 
+/// A list of users.
 pub type UserList = List<User>;
 
 /// A group.
@@ -25,6 +27,7 @@ pub struct Group {
     pub label: Text,
 }
 
+/// A list of groups.
 pub type GroupList = List<Group>;
 
 /// A login session.
@@ -39,6 +42,7 @@ pub struct Session {
     pub active: bool,
 }
 
+/// A list of sessions.
 pub type SessionList = List<Session>;
 
 /// A process that runs.
@@ -52,6 +56,7 @@ pub struct Process {
     pub session: Option<Text>,
 }
 
+/// A list of processes.
 pub type ProcessList = List<Process>;
 
 /// Users, groups, sessions and processes.

@@ -15,7 +15,8 @@ pub struct Ended {
     pub written: Vec<u8>,
 }
 
-/// How the input comes and the output goes: pieces in bytes, and the numbers of the calls that fail.
+/// How the input comes and the output goes: pieces in bytes, and the numbers of the calls that
+/// fail.
 #[derive(Clone, Copy)]
 pub struct Ways {
     pub read_piece: usize,

@@ -31,7 +31,9 @@ pub enum FaultKind {
 /// The first fault from the front, and its place, counted from the message's first byte.
 #[derive(Clone, Copy, Debug, PartialEq, Eq)]
 pub struct Fault {
+    /// What is wrong.
     pub kind: FaultKind,
+    /// The place, in bytes from the message's first.
     pub at: usize,
 }
 
@@ -47,7 +49,9 @@ impl Fault {
 /// Why the first bytes begin no message.
 #[derive(Clone, Copy, Debug, PartialEq, Eq)]
 pub enum Stop {
+    /// More bytes have to come, and those that are there show no fault.
     Partial,
+    /// They have this fault.
     Bad(Fault),
 }
 

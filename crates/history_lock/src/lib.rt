@@ -1,4 +1,7 @@
-//! A lock that counts its history. A machine lies under it, whose calls append one entry each to a list. Each caller has a pass, which stands for its number and for the history that it knows, so a call says what it did in terms of the caller's own pass: which entries of others came, and then which one of its own. `docs/lock.md` explains the rule that the lock keeps.
+//! A lock that counts its history. A machine lies under it, whose calls append one entry each to a
+//! list. Each caller has a pass, which stands for its number and for the history that it knows, so
+//! a call says what it did in terms of the caller's own pass: which entries of others came, and
+//! then which one of its own. `docs/lock.md` explains the rule that the lock keeps.
 #![tactic(auto)]
 
 mod lock;

@@ -46,9 +46,11 @@ pub fn open_table<M: Machine>(alloc: Global) -> Result<Opened<M>, NoMemory>
     Ok(Opened { table, book })
 }
 
-/// A machine under a lock, whose history the passes know. `T` is the name of the lock's table, so that a pass fits the lock that made it and no other.
+/// A machine under a lock, whose history the passes know. `T` is the name of the lock's table, so
+/// that a pass fits the lock that made it and no other.
 ///
-/// No clause speaks of waiting: a call that waits for the lock, or for an operation to be ready, returns only if other callers do their part.
+/// No clause speaks of waiting: a call that waits for the lock, or for an operation to be ready,
+/// returns only if other callers do their part.
 #[derive(Drop)]
 pub struct HistoryLock<M: Machine, T: TableName> {
     table: LockTable<M>,
@@ -59,7 +61,8 @@ pub struct HistoryLock<M: Machine, T: TableName> {
 }
 
 impl<M: Machine, T: TableName> HistoryLock<M, T> {
-    /// Puts a machine with no entry under a lock, and makes the first pass, whose number is 0. It takes no memory, so the answer is always Ok.
+    /// Puts a machine with no entry under a lock, and makes the first pass, whose number is 0. It
+    /// takes no memory, so the answer is always Ok.
     pub fn start(machine: M, opened: Opened<M>) -> Result<(HistoryLock<M, T>, Pass<M, T>), NoMemory>
         requires machine { M.entries machine ≡ [] }
         requires table { opened ≡ T.table }
@@ -88,7 +91,8 @@ impl<M: Machine, T: TableName> HistoryLock<M, T> {
         Ok((lock, pass))
     }
 
-    /// Makes a new pass, with the next number. It is new: it is none of those that the old pass knew, and no entry has it. Both passes know the same then. It takes the lock and no memory.
+    /// Makes a new pass, with the next number. It is new: it is none of those that the old pass
+    /// knew, and no entry has it. Both passes know the same then. It takes the lock and no memory.
     ///
     /// Full exactly where all 1,048,576 passes were made.
     pub fn admit<R: Wait>(&self, rt: &R, pass: &mut Pass<M, T>) -> Result<Pass<M, T>, AdmitRefused>
@@ -98,9 +102,13 @@ impl<M: Machine, T: TableName> HistoryLock<M, T> {
         self.locked.lock(rt).admit(&self.table, pass)
     }
 
-    /// Calls the machine, with an operation that is ready in every state. On Ok the pass's history has grown by entries of others and then by the one that this call made; the reply is the machine's after the entries before it. The lock itself takes no memory.
+    /// Calls the machine, with an operation that is ready in every state. On Ok the pass's history
+    /// has grown by entries of others and then by the one that this call made; the reply is the
+    /// machine's after the entries before it. The lock itself takes no memory.
     ///
-    /// Ended where `end` was called before, with the kept cause, which fits what the pass then knows; Machine exactly where the machine refuses after the history that the pass then knows. A refused call adds no entry.
+    /// Ended where `end` was called before, with the kept cause, which fits what the pass then
+    /// knows; Machine only where the machine refuses after the history that the pass then knows. A
+    /// refused call adds no entry.
     pub fn call<R: Wait>(
         &self,
         rt: &R,
@@ -140,7 +148,8 @@ impl<M: Machine, T: TableName> HistoryLock<M, T> {
         answer
     }
 
-    /// Ends the lock by a cause that fits what the pass knows. The first cause is kept, and the answer is the kept one, which fits what the pass then knows. It takes no memory.
+    /// Ends the lock by a cause that fits what the pass knows. The first cause is kept, and the
+    /// answer is the kept one, which fits what the pass then knows. It takes no memory.
     pub fn end<R: Wait>(&self, rt: &R, pass: &mut Pass<M, T>, cause: EndCause) -> EndCause
         requires { M.fits cause pass.old.history pass.old.made }
         ensures fits { M.fits result pass.new.history pass.new.made }
@@ -151,7 +160,9 @@ impl<M: Machine, T: TableName> HistoryLock<M, T> {
         kept
     }
 
-    /// Two passes tell each other what they know. Both know the longer of the two histories then, of which the other is a beginning, and neither has an entry more of its own. It takes neither the lock nor memory.
+    /// Two passes tell each other what they know. Both know the longer of the two histories then,
+    /// of which the other is a beginning, and neither has an entry more of its own. It takes
+    /// neither the lock nor memory.
     pub fn meet(&self, first: &mut Pass<M, T>, second: &mut Pass<M, T>)
         ensures equal { (first.new.history ≡ second.new.history) × (first.new.made ≡ second.new.made) }
         ensures longer { first.new.history ≡ longer_of second.old.history first.old.history }
@@ -163,7 +174,8 @@ impl<M: Machine, T: TableName> HistoryLock<M, T> {
         take_note_of_pass(&self.table, first, second);
     }
 
-    /// Ends the lock's life and gives the machine back. Its entries are legal, and begin with all that the pass had seen. It takes no memory.
+    /// Ends the lock's life and gives the machine back. Its entries are legal, and begin with all
+    /// that the pass had seen. It takes no memory.
     pub fn close(self, pass: Pass<M, T>) -> M
         ensures begins { IsPrefix pass.history (M.entries result) }
         ensures legal { M.legal (M.entries result) }

@@ -17,7 +17,8 @@ use std::marker::{Brand, Model, PhantomData};
 /// How many passes a lock has.
 const MOST_PASSES: u32 = 1_048_576;
 
-/// What lies under the lock: the machine, and the book's seat, which knows the whole history. Contracts see the machine's entries, how many passes were made, and the kept cause.
+/// What lies under the lock: the machine, and the book's seat, which knows the whole history.
+/// Contracts see the machine's entries, how many passes were made, and the kept cause.
 #[derive(Drop)]
 pub struct Locked<M: Machine, T: TableName> {
     pub(crate) machine: M,
@@ -42,7 +43,8 @@ impl<M: Machine, T: TableName> Model for Locked<M, T> {
         × CauseFits M.fits l.cause (M.entries l.machine) l.made };
 }
 
-/// The book settles a receipt of the pass and reads, so it learns that the pass's history begins its own.
+/// The book settles a receipt of the pass and reads, so it learns that the pass's history begins
+/// its own.
 pub fn settle_receipt<M: Machine, T: TableName>(
     table: &LockTable<M>,
     book: &mut LockSeat<M>,
@@ -71,7 +73,8 @@ pub fn settle_receipt<M: Machine, T: TableName>(
     steps::read(table, book);
 }
 
-/// The pass takes a note of the book and reads, so it learns the book's history, and which entries of it are its own.
+/// The pass takes a note of the book and reads, so it learns the book's history, and which entries
+/// of it are its own.
 pub fn take_note_of_book<M: Machine, T: TableName>(
     table: &LockTable<M>,
     book: &mut LockSeat<M>,

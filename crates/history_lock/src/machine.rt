@@ -13,7 +13,8 @@ pub enum EndCause {
     Admissions { admitted: u32 },
 }
 
-/// A machine that stands for a list of entries, of which each call appends one. It knows nothing of locks and threads.
+/// A machine that stands for a list of entries, of which each call appends one. It knows nothing of
+/// locks and threads.
 pub trait Machine {
     ghost use Rattle.history_lock.specs.declared.machine.EndCause.{EndCause};
 
@@ -50,7 +51,8 @@ pub trait Machine {
     /// Which causes fit which entries and which count of passes.
     ghost fits: { EndCause → List Self.Item → ℕ → Type 0 };
 
-    /// Applies an operation of the caller. Ok appends one entry, by the caller, and the list is legal then. A refusal changes nothing and hands the operation back.
+    /// Applies an operation of the caller. Ok appends one entry, by the caller, and the list is
+    /// legal then. A refusal changes nothing and hands the operation back.
     fn apply(&mut self, caller: u32, op: Self::Op) -> Result<Self::Reply, (Self::Refusal, Self::Op)>
         requires { is_ready caller op (entries self.old) }
         ensures ok { IfOk result (λ reply. (e : Self.Item)
@@ -69,10 +71,12 @@ pub trait Machine {
     /// No entry at all is legal.
     ghost begins: { legal [] };
 
-    /// A legal list has at most 2^32 entries, so that their count never leaves the word of the table.
+    /// A legal list has at most 2^32 entries, so that their count never leaves the word of the
+    /// table.
     ghost bounded: { (list : List Self.Item) → legal list → length list ≤ 2 ^ 32 };
 
-    /// A cause that fits goes on to fit, as legal entries come and as passes are made, of which there are at most 1,048,576.
+    /// A cause that fits goes on to fit, as legal entries come and as passes are made, of which
+    /// there are at most 1,048,576.
     ghost lasts: { (cause : EndCause) (list more : List Self.Item) (m n : ℕ)
         → fits cause list m → legal more → IsPrefix list more → m ≤ n → n ≤ 1048576
         → fits cause more n };

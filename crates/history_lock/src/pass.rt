@@ -5,7 +5,8 @@ use crate::machine::Machine;
 use crate::view::LockSeat;
 use std::marker::{Brand, Model, PhantomData};
 
-/// Which table it is. A program picks the name of each table that it opens once, by a call of a function that is generic in the name.
+/// Which table it is. A program picks the name of each table that it opens once, by a call of a
+/// function that is generic in the name.
 pub trait TableName {
     ghost use Rattle.atomic_table.specs.Seated.{TableId};
 
@@ -19,7 +20,8 @@ impl TableName for Brand {
     ghost table = { no_table };
 }
 
-/// A caller of the lock whose table is named `T`. Contracts see its number, the history that it knows, and how many passes it knows to be made.
+/// A caller of the lock whose table is named `T`. Contracts see its number, the history that it
+/// knows, and how many passes it knows to be made.
 #[derive(Drop)]
 pub struct Pass<M: Machine, T: TableName> {
     pub(crate) number: u32,

@@ -15,7 +15,8 @@ impl<M: Machine> Play<(), View<M::Item>> for Reads<M> {
     ghost then = { Told M.caller_of M.legal };
 }
 
-/// The list that the book's history becomes by an append. Each append picks it, since a kind of step has no parameter.
+/// The list that the book's history becomes by an append. Each append picks it, since a kind of
+/// step has no parameter.
 pub trait Written<I> {
     ghost use Rattle.std.specs.Prelude.{List};
 

@@ -1,4 +1,5 @@
-// The kinds of step, taken at a table. Each proves from the rule that the step may be taken, and says what it makes of the views.
+// The kinds of step, taken at a table. Each proves from the rule that the step may be taken, and
+// says what it makes of the views.
 ghost use Rattle.std.specs.Prelude.{◌≡◌, ◌+◌, ◌<◌, ◌^◌, ◌⊎◌, [], ◌∷◌, ◌++◌, None, Some, length, IfOk};
 ghost use Rattle.history_lock.specs.declared.view.Kind.TheVariants.{Book, Caller, Note, Receipt};
 ghost use Rattle.history_lock.specs.Rule.{IsTold, opened};

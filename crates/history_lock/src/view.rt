@@ -28,9 +28,11 @@ pub struct View<I> {
     pub history: LinkedList<I>,
     /// How many passes it knows to be made.
     pub made: u64,
-    /// Of the book: the caller of the last entry, until that caller knows it. Of a note of the book: the same at that time.
+    /// Of the book: the caller of the last entry, until that caller knows it. Of a note of the
+    /// book: the same at that time.
     pub in_flight: Option<u64>,
-    /// Of a caller: the history that it had before it took a note. Of the book: the history of the receipt that it settled.
+    /// Of a caller: the history that it had before it took a note. Of the book: the history of the
+    /// receipt that it settled.
     pub old_history: LinkedList<I>,
     /// Of the book: the count in the receipt that it settled.
     pub old_made: u64,

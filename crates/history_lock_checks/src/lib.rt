@@ -1,4 +1,5 @@
-//! Checks of the lock that counts its history, at a small machine: what two threads add stands in the one history, each item once and in its order.
+//! Checks of the lock that counts its history, at a small machine: what two threads add stands in
+//! the one history, each item once and in its order.
 #![tactic(auto)]
 
 mod tally;

@@ -9,7 +9,8 @@ use std::alloc::Global;
 use std::sync::Wait;
 use std::thread::{Threads, join_mut};
 
-/// Adds the amounts one after another, until one is refused, and says how many were added. They are all that the pass's history has more of its caller, in their order.
+/// Adds the amounts one after another, until one is refused, and says how many were added. They are
+/// all that the pass's history has more of its caller, in their order.
 pub fn add_all<T: TableName, R: Wait>(
     rt: &R,
     lock: &HistoryLock<Tally, T>,
@@ -32,7 +33,9 @@ pub fn add_all<T: TableName, R: Wait>(
     added
 }
 
-/// Two threads add amounts each at once, through passes of their own, which then meet. Says how many amounts each added. The one history that both passes know then has of each just these, in their order.
+/// Two threads add amounts each at once, through passes of their own, which then meet. Says how
+/// many amounts each added. The one history that both passes know then has of each just these, in
+/// their order.
 pub fn add_beside<'a, T: TableName + Send + Sync, R: Threads + Wait + Sync>(
     rt: &'a R,
     lock: &'a HistoryLock<Tally, T>,
@@ -60,7 +63,10 @@ pub fn add_beside<'a, T: TableName + Send + Sync, R: Threads + Wait + Sync>(
     counts
 }
 
-/// Two threads add amounts each to a new tally, as `add_beside` says, and the lock is closed. The answer is the tally with the numbers of the two passes, where each amount was added and nobody else added any. The tally has the amounts of each thread then, each once and in the thread's order.
+/// Two threads add amounts each to a new tally, as `add_beside` says, and the lock is closed. The
+/// answer is the tally with the numbers of the two passes, where each amount was added and nobody
+/// else added any. The tally has the amounts of each thread then, each once and in the thread's
+/// order.
 pub fn added_by_two<T: TableName + Send + Sync, R: Threads + Wait + Sync>(
     rt: &R,
     alloc: Global,

@@ -83,6 +83,7 @@ impl<'a> OpenGroup<'a> {
 }
 
 impl<'a> Grouping<'a> {
+    /// No group yet.
     pub fn new(alloc: Global) -> Self
         ensures none { grouped result ≡ no_groups }
     {
@@ -92,6 +93,7 @@ impl<'a> Grouping<'a> {
         }
     }
 
+    /// Whether a group has begun.
     pub fn is_open(&self) -> bool
         ensures open { result ≡ is_some (grouped self.now).current }
     {

@@ -1,5 +1,5 @@
 //! Key files, as `.pkla` files and the files of localauthority.conf.d are (pklocalauthority(8),
-//! "DIRECTORY STRUCTURE" and "ADMINISTRATOR AUTHENTICATION"): groups of keys with values, and the
+//! "Directory Structure" and "Administrator Authentication"): groups of keys with values, and the
 //! items of values that are lists.
 #![tactic(auto)]
 

@@ -44,6 +44,7 @@ pub enum LineGot {
     TooLong,
     /// The source failed, and counted it.
     ReadFault,
+    /// Memory for the line was refused.
     NoMemory,
 }
 

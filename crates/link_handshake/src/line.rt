@@ -27,6 +27,7 @@ impl Model for OpenLine {
 }
 
 impl OpenLine {
+    /// The line of which nothing has come.
     pub fn new() -> Self
         ensures empty { result ≡ [] }
     {
@@ -35,6 +36,7 @@ impl OpenLine {
         }
     }
 
+    /// The bytes that have come.
     pub fn bytes(&self) -> &[u8]
         ensures bytes { result.now ≡ self.now }
         ensures line { IsOpenLine self.now }
@@ -42,6 +44,7 @@ impl OpenLine {
         self.bytes.as_slice()
     }
 
+    /// Whether it has as many bytes as a line may have.
     pub fn is_full(&self) -> bool
         ensures full { MatchBool result (length self.now ≡ MAX_LINE) (length self.now < MAX_LINE) }
         ensures line { IsOpenLine self.now }
@@ -59,6 +62,7 @@ impl OpenLine {
         self.bytes.push(byte);
     }
 
+    /// Begins the next line.
     pub fn clear(&mut self)
         ensures empty { self.new ≡ [] }
     {

@@ -14,11 +14,13 @@ pub enum Accepted<L> {
     Closed,
     /// The door failed, and counted it.
     Failed,
+    /// Memory for the two directions was refused.
     NoMemory,
 }
 
 /// Gives the links of one path to one user, and takes them back.
 pub trait Door: Drop + Send {
+    /// The links that it gives.
     type Link: Link;
 
     /// With what it was made, what it took back and what it will give, where they are told.

@@ -8,14 +8,18 @@ use crate::{Sink, Source};
 /// The two directions of a link, which may be used beside each other.
 #[derive(Drop)]
 pub struct Ends<L: Link> {
+    /// What the other side sends.
     pub input: L::In,
+    /// What is sent to the other side.
     pub output: L::Out,
 }
 
 /// A connection, of which nothing was read or written.
 pub trait Link: Drop + Send {
+    /// The direction that is read.
     type In: Source;
 
+    /// The direction that is written.
     type Out: Sink;
 
     /// Where the link is from, and all that it will give, where they are told.

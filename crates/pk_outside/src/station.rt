@@ -13,17 +13,22 @@ use pk_types::Text;
 pub enum StationRefused {
     /// The station failed, and counted it.
     Failed,
+    /// Memory was refused.
     NoMemory,
 }
 
 /// Makes doors, links, clocks and random words, and takes them back.
 pub trait Station: Drop + Send {
+    /// The doors that it makes.
     type Door: Door;
 
+    /// The links that it dials.
     type Link: Link;
 
+    /// The clocks that it makes.
     type Clock: Clock;
 
+    /// The givers of random words that it makes.
     type Salt: Salt;
 
     /// What it will give and what came back, where they are told.
@@ -35,7 +40,8 @@ pub trait Station: Drop + Send {
     /// A door for the links of this user at this path; `slot` numbers the doors of one path.
     ///
     /// # Errors
-    /// 1 `Failed` where the station failed and counted a fault; 2 `NoMemory`. It then tells what it told.
+    /// 1 `Failed` where the station failed and counted a fault; 2 `NoMemory`. It then tells what it
+    /// told.
     fn door(&mut self, uid: u32, path: &Text, slot: u32) -> Result<Self::Door, StationRefused>
         ensures door { IfOk result (λ door. MakesDoor uid path.now slot (told self.old) (told self.new) (Self.Door.told door)) }
         ensures owner { IfOk result (λ door. Self.Door.owner door ≡ uid) }
@@ -46,7 +52,8 @@ pub trait Station: Drop + Send {
     /// A link to whoever listens at this path.
     ///
     /// # Errors
-    /// 1 `Failed` where the station failed and counted a fault; 2 `NoMemory`. It then tells what it told.
+    /// 1 `Failed` where the station failed and counted a fault; 2 `NoMemory`. It then tells what it
+    /// told.
     fn dial(&mut self, path: &Text) -> Result<Self::Link, StationRefused>
         ensures link { IfOk result (λ link. Dials path.now (told self.old) (told self.new) (Self.Link.origin link)) }
         ensures err { OnErr result (told self.new ≡ told self.old) }
@@ -68,8 +75,8 @@ pub trait Station: Drop + Send {
         ensures shut { Shuts (told self.old) (told self.new) (Self.Door.told door) (Self.Clock.gave clock) (Self.Salt.gave salt) }
         ensures count { RoseWhere (nat_lt 0 (Self.Door.faults door)) (faults self.old) (faults self.new) };
 
-    /// Takes a dialled link back, and counts a fault exactly where one of its two directions counted
-    /// one. It takes no memory.
+    /// Takes a dialled link back, and counts a fault exactly where one of its two directions
+    /// counted one. It takes no memory.
     fn hang(&mut self, ends: Ends<Self::Link>)
         ensures hung { Hangs (told self.old) (told self.new) (EndsTell (Self.Link.In.origin ends.input)
             (Self.Link.In.left ends.input) (Self.Link.Out.held ends.output) (Self.Link.In.faults ends.input) (Self.Link.Out.faults ends.output)) }

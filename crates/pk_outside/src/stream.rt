@@ -14,7 +14,8 @@ pub trait Source: Drop + Send {
     /// The bytes that reads will give from here on, where they are told.
     ghost left: { Self → Option (List ℕ) };
 
-    /// Where the source is from, and all of its bytes: told by the reading end of a link that is told.
+    /// Where the source is from, and all of its bytes: told by the reading end of a link that is
+    /// told.
     ghost origin: { Self → Option Origin } = { λ _. None };
 
     /// How often the source has failed.

@@ -17,6 +17,7 @@ pub enum Names {
 /// What a file holds.
 #[derive(Drop)]
 pub enum FileBytes {
+    /// All of its bytes.
     Bytes(ByteList),
     /// No file stands at that path.
     Absent,
@@ -29,6 +30,7 @@ pub enum FileBytes {
 pub enum TreeRefused {
     /// The tree failed, and counted it.
     Failed,
+    /// Memory was refused.
     NoMemory,
 }
 

@@ -21,8 +21,11 @@ use std::alloc::Global;
 /// Why a run stopped at a line.
 #[derive(Clone, Copy, Debug, PartialEq, Eq)]
 enum Stopped {
+    /// The line has this fault.
     Fault(LineKind),
+    /// The output failed, and counted it.
     WriteFault,
+    /// Memory was refused.
     NoMemory,
 }
 
@@ -95,8 +98,9 @@ fn answer_line<O: Sink>(
 /// answered before a fault stays written. The tree is not asked, and the limits have no effect yet.
 ///
 /// # Errors
-/// `BadLine` exactly where that line has that first fault and the lines before it have none;
-/// `ReadFault` and `WriteFault` only where the input or the output counted a fault; `NoMemory`.
+/// `BadLine` only where that line has that first fault and the lines before it have none;
+/// `ReadFault` and `WriteFault` only where the input or the output counted a fault; `NoMemory`,
+/// which may come in place of any answer.
 pub fn replay<T: Tree, I: Source, O: Sink>(
     alloc: Global,
     root: Option<&Text>,
@@ -108,7 +112,8 @@ pub fn replay<T: Tree, I: Source, O: Sink>(
     requires root { IsNone root }
     requires limits { (limits.entries ≤ 1048576) × (limits.bytes ≤ 536870912) }
 
-    // What is written is the text of the legal history that the bytes read make, as far as the status says.
+    // What is written is the text of the legal history that the bytes read make, as far as the
+    // status says.
     ensures run { Replays (I.left input.old) (I.left input.new) (I.ended input.new) (O.held output.old) (O.held output.new) result }
 
     // A fault of the outside is told only where the object counted it.

@@ -38,7 +38,8 @@ pub fn polkitd<R: Threads + Wait + Sync, T: Tree, N: Station, I: Source, O: Sink
     ensures unread { result ≡ Status.Usage → I.left input.new ≡ I.left input.old }
     ensures unwritten { result ≡ Status.Usage → O.held output.new ≡ O.held output.old }
 
-    // A replay writes the text of the legal history that the bytes read make, as far as the status says.
+    // A replay writes the text of the legal history that the bytes read make, as far as the status
+    // says.
     ensures replay { command_of words.now ≡ Some Command.Replay →
         Replays (I.left input.old) (I.left input.new) (I.ended input.new) (O.held output.old) (O.held output.new) result }
 

@@ -17,6 +17,7 @@ use std::alloc::Global;
 pub enum WriteRefused {
     /// The sink failed, and counted it.
     Failed,
+    /// Memory for the line was refused.
     NoMemory,
 }
 

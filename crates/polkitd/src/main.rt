@@ -1,4 +1,5 @@
-//! The daemon: it makes the real objects of the outside, and calls the top call.
+//! The daemon: it makes a source over standard input and a sink over standard output, and calls the
+//! top call.
 #![tactic(auto)]
 
 use pk_outside::{ListStation, ListTree, ReadSource, WriteSink};

@@ -120,8 +120,8 @@ pub struct ByteSink {
 impl ByteSink {
     ghost use Rattle.pk_outside.specs.Held.{sink_held, sink_calls, sink_room};
 
-    /// An empty sink with room for so many bytes, which takes at most `piece` of them in a call. The
-    /// calls with the numbers in `failing` fail; the first call has the number 1.
+    /// An empty sink with room for so many bytes, which takes at most `piece` of them in a call.
+    /// The calls with the numbers in `failing` fail; the first call has the number 1.
     pub fn new(
         alloc: Global,
         room: usize,

@@ -15,7 +15,7 @@ use pk_types::Text;
 pub struct ListTree {}
 
 impl ListTree {
-    /// It takes no memory.
+    /// The empty tree. It takes no memory.
     pub fn new() -> Self {
         ListTree {}
     }
@@ -42,7 +42,7 @@ impl Tree for ListTree {
 pub struct SureTree {}
 
 impl SureTree {
-    /// It takes no memory.
+    /// The empty tree. It takes no memory.
     pub fn new() -> Self {
         SureTree {}
     }
@@ -173,7 +173,7 @@ pub struct ListStation {
 }
 
 impl ListStation {
-    /// It takes no memory.
+    /// A station that counted no fault. It takes no memory.
     pub fn new() -> Self
         ensures sound { ⟦<ListStation as Station>⟧.faults result ≡ 0 }
     {

@@ -67,7 +67,7 @@ impl Source for SureSource {
 pub struct SureSink {}
 
 impl SureSink {
-    /// It takes no memory.
+    /// A sink, to be written to. It takes no memory.
     pub fn new() -> Self {
         SureSink {}
     }
