@@ -1,0 +1,23 @@
+//! What each event is answered, by the state of the history before it.
+//!
+//! Each definition of `authority_model`'s Answers has a function here, which puts its outputs behind
+//! those that are there.
+#![tactic(auto)]
+
+mod calls;
+mod checking;
+mod context;
+mod departing;
+mod events;
+mod finding;
+mod granting;
+mod keys;
+mod loading;
+mod names;
+mod registering;
+mod replies;
+mod returning;
+mod subject_calls;
+mod trusting;
+
+pub use events::{load_outputs, outputs};
