@@ -6,11 +6,13 @@
 #![tactic(auto)]
 
 mod annotations;
+mod answering;
 mod decide;
 mod grants;
 mod implying;
 mod order;
 mod owners;
+mod returns;
 mod rulings;
 #[cfg(test)]
 mod tests;
@@ -18,7 +20,9 @@ mod values;
 mod verdicts;
 mod words;
 
+pub use answering::allowed;
 pub use decide::ruling;
 pub use owners::owns;
+pub use returns::return_verdict;
 pub use rulings::Ruling;
 pub use verdicts::{no, verdict};

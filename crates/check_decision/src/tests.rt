@@ -2,11 +2,12 @@
 ghost use Rattle.std.specs.Prelude.{IfOk};
 ghost use Rattle.authority_model.specs.Small.{IsShort};
 
-use crate::ruling;
+use crate::{Ruling, allowed, no, owns, return_verdict, ruling, verdict};
 use authority_model::{
-    Action, ActionList, Decision, Facts, GrantRow, Key, KeyRef, Loaded, RuleSource,
+    Action, ActionList, Cookie, Decision, Facts, GrantRow, Key, KeyRef, Loaded, Pending, Process,
+    Reason, RuleSource, Session, World,
 };
-use pk_types::{ActionId, Category, Implicit, List, Pair, Text};
+use pk_types::{ActionId, Category, Identity, Implicit, List, Pair, Text};
 use std::alloc::Global;
 use std::test::Fail;
 
@@ -63,12 +64,31 @@ fn actions(alloc: Global) -> Result<ActionList, Fail>
     Ok(actions)
 }
 
+/// A process of uid 1000 in an active local session.
+fn world(alloc: Global) -> Result<World, Fail> {
+    let mut world = Loaded::empty(alloc).world;
+    world.sessions.try_push(Session {
+        id: text(alloc, "s1")?,
+        uid: 1000,
+        local: true,
+        active: true,
+    })?;
+    world.processes.try_push(Process {
+        pid: 50,
+        start: 7,
+        uid: 1000,
+        session: Some(text(alloc, "s1")?),
+    })?;
+    Ok(world)
+}
+
 fn load(alloc: Global) -> Result<Loaded, Fail>
     ensures actions { IfOk result (λ l. IsShort l.policy.actions) }
     ensures entries { IfOk result (λ l. IsShort l.policy.entries) }
 {
     let mut loaded = Loaded::empty(alloc);
     loaded.policy.actions = actions(alloc)?;
+    loaded.world = world(alloc)?;
     Ok(loaded)
 }
 
@@ -119,5 +139,71 @@ fn checks_are_decided(rt: HostRuntime) -> Result<(), Fail> {
     assert!(rt; decided(alloc, 1000, 5, "z.main")? == Some(Decision::Yes(ACTIVE)));
     assert!(rt; decided(alloc, 1000, 5, "a.part")? == Some(Decision::Imply(2)));
     assert!(rt; decided(alloc, 1000, 5, "a.none")? == None);
+    Ok(())
+}
+
+/// A challenge on "a.keep" that this identity answered.
+fn challenge(alloc: Global, answered: Option<Identity>) -> Result<Pending, Fail> {
+    let key = || Key::Process {
+        pid: 50,
+        start: 7,
+        uid: 1000,
+    };
+    Ok(Pending {
+        entry: 3,
+        asker: 1,
+        asker_uid: 1000,
+        serial: 2,
+        quiet: false,
+        cancel: Text::new(alloc),
+        key: key(),
+        action: text(alloc, "a.keep")?,
+        value: Implicit::AuthSelfKeep,
+        source: ACTIVE,
+        cookie: Cookie { serial: 1, salt: 0 },
+        identities: List::new(alloc),
+        agent: 2,
+        agent_serial: 1,
+        agent_key: key(),
+        agent_path: text(alloc, "/agent")?,
+        answered,
+    })
+}
+
+/// Whether the return of a challenge is yes, and the number of the grant that it makes.
+fn returned(alloc: Global, answered: Option<Identity>) -> Result<(bool, Option<u64>), Fail> {
+    let loaded = load(alloc)?;
+    let challenge = challenge(alloc, answered)?;
+    let verdict = return_verdict(alloc, &loaded, &[], 9, 400, &challenge)?;
+    Ok((verdict.yes, verdict.grant))
+}
+
+#[test]
+fn answers_count(rt: HostRuntime) -> Result<(), Fail> {
+    let alloc = rt.alloc();
+    assert!(rt; returned(alloc, None)? == (false, None));
+    assert!(rt; returned(alloc, Some(Identity::User(1000)))? == (true, Some(9)));
+    assert!(rt; returned(alloc, Some(Identity::User(1001)))? == (false, None));
+    Ok(())
+}
+
+#[test]
+fn identities_and_verdicts_are_told(rt: HostRuntime) -> Result<(), Fail> {
+    let alloc = rt.alloc();
+    let loaded = load(alloc)?;
+    let action = action(
+        alloc,
+        "a.own",
+        Implicit::No,
+        "org.freedesktop.policykit.owner",
+        "unix-user:7",
+    )?;
+    assert!(rt; owns(&loaded.world, 7, &action));
+    assert!(rt; !owns(&loaded.world, 8, &action));
+    assert!(rt;
+        allowed(alloc, &loaded, Implicit::AuthSelf, 5)?.as_slice() == [Identity::User(5)].as_slice()
+    );
+    assert!(rt; verdict(alloc, &loaded.policy, &Ruling::Grant(4))?.yes);
+    assert!(rt; !no(alloc, Reason::Dismissed).challenge);
     Ok(())
 }

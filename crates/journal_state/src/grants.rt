@@ -101,6 +101,11 @@ impl Grants {
         self.made
     }
 
+    /// The allocator that the grants were made with.
+    pub(crate) fn allocator(&self) -> Global {
+        *self.rows.allocator()
+    }
+
     /// Takes room for one more grant. A refusal leaves the grants as they were.
     pub fn try_reserve(&mut self) -> Result<(), NoMemory>
         ensures items { self.new.items ≡ self.old.items }

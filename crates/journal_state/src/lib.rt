@@ -8,6 +8,7 @@ mod challenges;
 mod connections;
 mod cookies;
 mod ending;
+mod granting;
 mod grants;
 mod keys;
 mod names;

@@ -1,5 +1,5 @@
 // The state of a history.
-ghost use Rattle.std.specs.Prelude.{◌≡◌, ◌<◌, ◌∷◌, [], List, length, OnOk, OnErr};
+ghost use Rattle.std.specs.Prelude.{◌≡◌, ◌<◌, ◌≤◌, ◌^◌, ◌∷◌, [], List, length, OnOk, OnErr};
 ghost use Rattle.std.specs.Option.{option_copied};
 ghost use Rattle.authority_model.specs.declared.journal.Item.{Item};
 ghost use Rattle.authority_model.specs.Items.{loaded_of, world_of};
@@ -12,6 +12,7 @@ ghost use Rattle.journal_state.specs.Tables.{HasRoom};
 use crate::challenges::Challenges;
 use crate::connections::Connections;
 use crate::ending::ending_of;
+use crate::granting::granted;
 use crate::grants::Grants;
 use crate::opening::opened;
 use crate::registrations::Registrations;
@@ -76,13 +77,14 @@ impl State {
         place: u64,
         entry: &Entry,
         loaded: Option<&Loaded>,
-        granted: Option<GrantRow>,
     ) -> Result<(), NoMemory>
         requires entries { IsShort in_force.now.policy.entries }
-        ensures ok { (past : List Item) → in_force.now ≡ loaded_of past → place ≡ length past → granted ≡ granted_by past (record { entry = entry.now; loaded = option_copied loaded.entry }) → IsStateOf past self.old → OnOk result (IsStateOf (record { entry = entry.now; loaded = option_copied loaded.entry } ∷ past) self.new) }
+        requires moment { entry.now.moment ≤ 2 ^ 62 }
+        ensures ok { (past : List Item) → in_force.now ≡ loaded_of past → place ≡ length past → IsStateOf past self.old → OnOk result (IsStateOf (record { entry = entry.now; loaded = option_copied loaded.entry } ∷ past) self.new) }
         ensures err { OnErr result ((past : List Item) → IsStateOf past self.old → IsStateOf past self.new) }
     {
         let opened = opened(self, in_force, place, entry)?;
+        let granted = granted(self, in_force, entry)?;
         self.carry(&in_force.world, entry, loaded, opened, granted)
     }
 

@@ -9,13 +9,29 @@ use crate::subjects::{process_facts, session_facts};
 use authority_model::{Facts, Key, Process, Session, World};
 use pk_types::Text;
 
+/// Whether a row has all these parts of a process's key.
+fn is_process(row: &Process, pid: u32, start: u64, uid: u32) -> bool
+    ensures is { result ≡ ((row.now.pid == pid) && (row.now.start == start) && (row.now.uid == uid)) }
+{
+    row.pid == pid && row.start == start && row.uid == uid
+}
+
+/// Whether a row has both parts of a session's key.
+fn is_session(row: &Session, id: &Text, uid: u32) -> bool
+    ensures is { result ≡ (bytes_eq row.now.id id.now && (row.now.uid == uid)) }
+{
+    row.id.is_same(id) && row.uid == uid
+}
+
 /// The first row of a process with this pid, start and uid.
 fn process_of(world: &World, pid: u32, start: u64, uid: u32) -> Option<&Process>
     ensures first { option_copied result ≡ find (λ p. (p.pid == pid) && (p.start == start) && (p.uid == uid)) world.now.processes }
 {
-    world.processes.as_slice().iter().find(|row| row.pid == pid
-        && row.start == start
-        && row.uid == uid)
+    world
+        .processes
+        .as_slice()
+        .iter()
+        .find(|row| is_process(row, pid, start, uid))
 }
 
 /// The first row of a session with this id and uid.
@@ -26,7 +42,7 @@ fn session_of<'a>(world: &'a World, id: &Text, uid: u32) -> Option<&'a Session>
         .sessions
         .as_slice()
         .iter()
-        .find(|row| row.id.is_same(id) && row.uid == uid)
+        .find(|row| is_session(row, id, uid))
 }
 
 /// What is known of the process with this pid, start and uid.
@@ -64,14 +80,14 @@ pub fn facts_of_key<'a>(world: &'a World, key: &Key) -> Option<Facts<'a>>
 fn has_process(rows: &[Process], pid: u32, start: u64, uid: u32) -> bool
     ensures has { result ≡ list_any (λ p. (p.pid == pid) && (p.start == start) && (p.uid == uid)) rows.now }
 {
-    rows.iter().any(|row| row.pid == pid && row.start == start && row.uid == uid)
+    rows.iter().any(|row| is_process(row, pid, start, uid))
 }
 
 /// Whether a session stands among these.
 fn has_session(rows: &[Session], id: &Text, uid: u32) -> bool
     ensures has { result ≡ list_any (λ s. bytes_eq s.id id.now && (s.uid == uid)) rows.now }
 {
-    rows.iter().any(|row| row.id.is_same(id) && row.uid == uid)
+    rows.iter().any(|row| is_session(row, id, uid))
 }
 
 /// Whether a world lists a key: some row has all its parts.

@@ -6,6 +6,8 @@
 mod keys;
 mod rows;
 mod subjects;
+#[cfg(test)]
+mod tests;
 
 pub use keys::{facts_of_key, lists_key};
 pub use rows::{process, session};

@@ -1,8 +1,7 @@
-use Rattle.std.proofs.Common.{◌≡◌, sym, ◌∙◌, ap, List, take, Some, rules, arith}
+use Rattle.std.proofs.Common.{sym, ◌∙◌, ap, Some, rules, arith}
 use Rattle.std.specs.Prelude.{map, filter}
 use Rattle.std.specs.Option.{option_copied}
 use Rattle.std.proofs.lemmas.List.{take_all}
-use Rattle.authority_model.specs.Items.{policy_of}
 use Rattle.authority_model.specs.Facts.{facts_seen}
 use Rattle.authority_model.specs.Words.{least_text}
 use Rattle.check_decision.proofs.LeastAction.{counted, least_found, least_walked, least_taken, least_kept}

@@ -1,0 +1,189 @@
+// What each call of a live caller is answered.
+ghost use Rattle.std.specs.Prelude.{◌≡◌, ◌++◌, ◌∷◌, [], List, OnOk, IfOk};
+ghost use Rattle.authority_model.specs.declared.journal.Item.{Item};
+ghost use Rattle.authority_model.specs.declared.event.Call.{Call as TheCall};
+ghost use Rattle.authority_model.specs.Answers.{answer_call as answer_of, answer_cancel, answer_respond};
+ghost use Rattle.authority_model.specs.Peers.{accepts_announce};
+ghost use Rattle.authority_model.specs.Small.{IsShort};
+ghost use Rattle.authority_model.specs.Words.{bus_name as bus_name_of};
+ghost use Rattle.journal_answers.specs.Contexts.{IsContextOf};
+ghost use Rattle.journal_answers.specs.Told.{said};
+
+use crate::checking::{Check, answer_check};
+use crate::context::Context;
+use crate::granting::revoke_one;
+use crate::keys::offers;
+use crate::names::bus_name;
+use crate::replies::{Say, cancel_begin, reply_to};
+use crate::subject_calls::{SubjectCall, answer_subject_call};
+use authority_model::{Answer, Call, ErrorCause, Message, Output, OutputList, Pending};
+use pk_types::{Identity, NoMemory, Text};
+use subject_table::process;
+
+/// Whether a caller may announce a process.
+fn accepts(context: &Context, caller: u32, pid: u32, start: u64) -> bool
+    ensures accepts { (past : List Item) → IsContextOf past context.now → result ≡ accepts_announce past caller pid start }
+{
+    if !context.connections.is_live(caller) {
+        return false;
+    }
+    match process(&context.loaded.world, pid, start) {
+        Some(row) => context.may_for(caller, row.uid),
+        None => false,
+    }
+}
+
+/// Answers Announce.
+fn announce(
+    outputs: &mut OutputList,
+    context: &Context,
+    say: Say,
+    pid: u32,
+    start: u64,
+) -> Result<(), NoMemory>
+    ensures told { (past : List Item) → IsContextOf past context.now → OnOk result (outputs.new ≡ outputs.old ++ answer_of past say.caller context.now.moment context.now.salt (said say) (TheCall.Announce pid start)) }
+{
+    if !accepts(context, say.caller, pid, start) {
+        return say.refuse(outputs, ErrorCause::BadAnnounce);
+    }
+    let name = bus_name(context.alloc, say.caller)?;
+    say.say(outputs, Answer::Name(name))
+}
+
+/// Cancels a pending check.
+fn cancel_check(outputs: &mut OutputList, say: Say, challenge: &Pending) -> Result<(), NoMemory>
+    ensures told { OnOk result (outputs.new ≡ outputs.old ++ answer_cancel (said say) challenge.now) }
+{
+    reply_to(outputs, challenge, Answer::Refused(ErrorCause::Cancelled))?;
+    cancel_begin(outputs, challenge)?;
+    say.say(outputs, Answer::Done)
+}
+
+/// Answers Cancel.
+fn cancel(outputs: &mut OutputList, context: &Context, say: Say, id: &Text) -> Result<(), NoMemory>
+    ensures told { (past : List Item) → IsContextOf past context.now → OnOk result (outputs.new ≡ outputs.old ++ answer_of past say.caller context.now.moment context.now.salt (said say) (TheCall.Cancel id.now)) }
+{
+    match context.with_id(say.caller, id) {
+        Some(challenge) => cancel_check(outputs, say, challenge),
+        None => say.refuse(outputs, ErrorCause::NoSuchId),
+    }
+}
+
+/// Answers a Respond to a pending challenge.
+fn respond_to(
+    outputs: &mut OutputList,
+    say: Say,
+    identity: Identity,
+    challenge: &Pending,
+) -> Result<(), NoMemory>
+    ensures told { OnOk result (outputs.new ≡ outputs.old ++ answer_respond identity (said say) challenge.now) }
+{
+    if offers(challenge.identities.as_slice(), identity) {
+        say.say(outputs, Answer::Done)
+    } else {
+        say.refuse(outputs, ErrorCause::NotOffered)
+    }
+}
+
+/// Answers Respond.
+fn respond(
+    outputs: &mut OutputList,
+    context: &Context,
+    say: Say,
+    cookie: &Text,
+    identity: Identity,
+) -> Result<(), NoMemory>
+    ensures told { (past : List Item) → IsContextOf past context.now → OnOk result (outputs.new ≡ outputs.old ++ answer_of past say.caller context.now.moment context.now.salt (said say) (TheCall.Respond cookie.now identity)) }
+{
+    if !context.is_root(say.caller) {
+        return say.refuse(outputs, ErrorCause::NotPrivileged);
+    }
+    match context.with_cookie(cookie) {
+        Some(challenge) => respond_to(outputs, say, identity, challenge),
+        None => say.refuse(outputs, ErrorCause::NoSuchCookie),
+    }
+}
+
+/// Answers EnumerateActions: the actions of the load in force, with their texts for a locale.
+fn enumerate_actions(
+    outputs: &mut OutputList,
+    context: &Context,
+    say: Say,
+    locale: &Text,
+) -> Result<(), NoMemory>
+    ensures told { (past : List Item) → IsContextOf past context.now → OnOk result (outputs.new ≡ outputs.old ++ answer_of past say.caller context.now.moment context.now.salt (said say) (TheCall.EnumerateActions locale.now)) }
+{
+    let locale = locale.try_copy()?;
+    let load = context.loads;
+    say.say(outputs, Answer::Actions { load, locale })
+}
+
+/// Answers Reload.
+fn reload(outputs: &mut OutputList, context: &Context, say: Say) -> Result<(), NoMemory>
+    ensures told { (past : List Item) → IsContextOf past context.now → OnOk result (outputs.new ≡ outputs.old ++ answer_of past say.caller context.now.moment context.now.salt (said say) TheCall.Reload) }
+{
+    if !context.is_root(say.caller) {
+        return say.refuse(outputs, ErrorCause::NotPrivileged);
+    }
+    say.say(outputs, Answer::Done)?;
+    outputs.try_push(Output {
+        to: 0,
+        message: Message::LoadWanted,
+    })
+}
+
+/// Answers a call of a live caller.
+pub fn answer_call(
+    outputs: &mut OutputList,
+    context: &Context,
+    say: Say,
+    call: &Call,
+) -> Result<(), NoMemory>
+    requires entries { IsShort context.now.loaded.now.policy.entries }
+    ensures told { (past : List Item) → IsContextOf past context.now → OnOk result (outputs.new ≡ outputs.old ++ answer_of past say.caller context.now.moment context.now.salt (said say) call.now) }
+{
+    match call {
+        Call::Announce { pid, start } => announce(outputs, context, say, *pid, *start),
+        Call::Check {
+            subject,
+            action,
+            details,
+            flags,
+            cancel,
+        } => {
+            let check = Check {
+                say,
+                subject,
+                action,
+                details,
+                flags: *flags,
+                cancel,
+            };
+            answer_check(outputs, context, &check)
+        }
+        Call::Cancel { cancel: id } => cancel(outputs, context, say, id),
+        Call::Register { subject, .. } => {
+            answer_subject_call(outputs, context, say, subject, SubjectCall::Register)
+        }
+        Call::Unregister { subject, path } => {
+            answer_subject_call(
+                outputs,
+                context,
+                say,
+                subject,
+                SubjectCall::Unregister { path },
+            )
+        }
+        Call::Respond { cookie, identity } => respond(outputs, context, say, cookie, *identity),
+        Call::EnumerateActions { locale } => enumerate_actions(outputs, context, say, locale),
+        Call::EnumerateGrants { subject } => {
+            answer_subject_call(outputs, context, say, subject, SubjectCall::EnumerateGrants)
+        }
+        Call::RevokeAll { subject } => {
+            answer_subject_call(outputs, context, say, subject, SubjectCall::RevokeAll)
+        }
+        Call::RevokeOne { id } => revoke_one(outputs, context, say, id),
+        Call::Reload => reload(outputs, context, say),
+        Call::Wrong { cause } => say.refuse(outputs, *cause),
+    }
+}

@@ -1,0 +1,60 @@
+// What a call is answered that is about a subject of the caller's own user.
+ghost use Rattle.std.specs.Prelude.{◌≡◌, ◌++◌, List, OnOk};
+ghost use Rattle.authority_model.specs.declared.journal.Item.{Item};
+ghost use Rattle.authority_model.specs.Answers.{for_known};
+ghost use Rattle.authority_model.specs.Facts.{facts_seen};
+ghost use Rattle.journal_answers.specs.Contexts.{IsContextOf};
+ghost use Rattle.journal_answers.specs.Told.{followed, said};
+
+use crate::context::Context;
+use crate::granting::{enumerate_grants, revoke_all};
+use crate::registering::{register, unregister};
+use crate::replies::Say;
+use authority_model::{ErrorCause, Facts, OutputList};
+use pk_types::{NoMemory, Subject, Text};
+
+/// A call about a subject for which its caller has to speak.
+#[derive(Clone, Copy)]
+pub enum SubjectCall<'a> {
+    Register,
+    Unregister { path: &'a Text },
+    EnumerateGrants,
+    RevokeAll,
+}
+
+/// Answers such a call for a subject of these facts, for which the caller may speak.
+fn follow(
+    outputs: &mut OutputList,
+    context: &Context,
+    say: Say,
+    call: SubjectCall,
+    facts: Facts,
+) -> Result<(), NoMemory>
+    ensures told { (past : List Item) → IsContextOf past context.now → OnOk result (outputs.new ≡ outputs.old ++ followed past context.now.moment say call.entry (facts_seen facts.entry)) }
+{
+    match call {
+        SubjectCall::Register => register(outputs, context, say, facts),
+        SubjectCall::Unregister { path } => unregister(outputs, context, say, facts, path),
+        SubjectCall::EnumerateGrants => enumerate_grants(outputs, context, say, facts),
+        SubjectCall::RevokeAll => revoke_all(outputs, context, say, facts),
+    }
+}
+
+/// Answers such a call: the subject has to be known, and the caller may speak for it.
+pub fn answer_subject_call(
+    outputs: &mut OutputList,
+    context: &Context,
+    say: Say,
+    subject: &Subject,
+    call: SubjectCall,
+) -> Result<(), NoMemory>
+    ensures told { (past : List Item) → IsContextOf past context.now → OnOk result (outputs.new ≡ outputs.old ++ for_known past say.caller subject.now (said say) (followed past context.now.moment say call.entry)) }
+{
+    let Some(facts) = context.facts(subject) else {
+        return say.refuse(outputs, ErrorCause::UnknownSubject);
+    };
+    if !context.may_for(say.caller, facts.uid) {
+        return say.refuse(outputs, ErrorCause::NotYours);
+    }
+    follow(outputs, context, say, call, facts)
+}
