@@ -229,9 +229,9 @@ impl Authority {
     {
         let in_force = load_in_force(self.history.loads.as_slice(), &self.empty);
         let facts = facts_of(&self.state.connections, &in_force.world, subject)?;
-        let moment = self.moment.max(moment);
+        let latest = self.moment.max(moment);
         let grants = self.state.grants.as_slice();
-        match ruling(in_force, grants, &facts, moment, id) {
+        match ruling(in_force, grants, &facts, latest, id) {
             Some(ruling) => Some(ruling.told(&in_force.policy)),
             None => None,
         }

@@ -213,26 +213,28 @@ fn is_decided(authority: &Authority, alloc: Global, row: &Case) -> Result<bool, 
     Ok(authority.decide(0, &Subject::Process { pid, start }, &id) == want)
 }
 
+/// Whether an entry is the second load, at moment 5, and one connection is told of it.
+fn is_second_load(entry: Option<&Entry>) -> bool {
+    match entry {
+        Some(entry) => {
+            entry.moment == 5
+                && entry.outputs.len() == 1
+                && matches!(&entry.event, Event::Load { load: 2 })
+        }
+        None => false,
+    }
+}
+
 #[test]
-fn a_later_load_is_told_to_live_callers(rt: HostRuntime) -> Result<(), Fail> {
+fn a_later_load_is_told_and_decides(rt: HostRuntime) -> Result<(), Fail> {
     let alloc = rt.alloc();
     let mut authority = started(alloc)?;
     assert!(rt; answered(&mut authority, 1, Event::Connect { uid: 1000 }) == Some(Told::Nothing));
     assert!(rt; authority.load(0, 0, Loaded::empty(alloc)).ok() == Some(2));
-    let Some(entry) = authority.entry(2) else {
-        return Ok(Err(NoMemory)?);
-    };
-    assert!(rt; entry.moment == 5 && entry.outputs.len() == 1);
-    assert!(rt; matches!(&entry.event, Event::Load { load: 2 }));
-    assert!(rt;
-        authority
-            .decide(
-                0,
-                &Subject::Process { pid: 1, start: 1 },
-                &Text::try_from_bytes(alloc, b"a.no")?
-            )
-            .is_none()
-    );
+    assert!(rt; is_second_load(authority.entry(2)));
+    let id = Text::try_from_bytes(alloc, b"a.no")?;
+    let gone = Subject::Process { pid: 1, start: 1 };
+    assert!(rt; authority.decide(0, &gone, &id).is_none());
     Ok(())
 }
 
