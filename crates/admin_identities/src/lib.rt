@@ -7,5 +7,7 @@
 
 mod admins;
 mod members;
+#[cfg(test)]
+mod tests;
 
 pub use admins::expand;

@@ -63,7 +63,8 @@ fn is_allowed(
     is_yes_for(loaded, facts, id) || live_grant(grants, facts.key, id, moment).is_some()
 }
 
-/// Whether an action implies another and is allowed. Of several actions with one id the first counts.
+/// Whether an action implies another and is allowed. Of several actions with one id the first counts,
+/// and it is looked up for those alone that list the other.
 fn counts(
     loaded: &Loaded,
     grants: &[GrantRow],

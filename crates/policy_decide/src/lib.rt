@@ -9,6 +9,8 @@
 mod actions;
 mod places;
 mod rules;
+#[cfg(test)]
+mod tests;
 mod values;
 
 pub use actions::action;

@@ -1,0 +1,161 @@
+// Each public call once, with ample memory. What is wanted is said by pklocalauthority(8).
+ghost use Rattle.std.specs.Prelude.{IfOk};
+ghost use Rattle.authority_model.specs.Small.{IsShort};
+
+use crate::{action, implicit};
+use authority_model::{
+    Action, Group, Loaded, Policy, RuleEntry, RuleList, RuleSource, User, World,
+};
+use pk_types::{ActionId, Category, Implicit, List, Text, TextList};
+use std::alloc::Global;
+use std::test::Fail;
+
+fn text(alloc: Global, bytes: &str) -> Result<Text, Fail> {
+    Ok(Text::try_from_bytes(alloc, bytes.as_bytes())?)
+}
+
+fn texts(alloc: Global, bytes: &str) -> Result<TextList, Fail> {
+    let mut texts = List::new(alloc);
+    texts.try_push(text(alloc, bytes)?)?;
+    Ok(texts)
+}
+
+/// An action of an active session's administrators.
+fn set_clock(alloc: Global) -> Result<Action, Fail> {
+    Ok(Action {
+        id: ActionId::read(&text(alloc, "clock.set")?)?,
+        descriptions: List::new(alloc),
+        messages: List::new(alloc),
+        vendor: Text::new(alloc),
+        vendor_url: Text::new(alloc),
+        icon: Text::new(alloc),
+        any: Implicit::No,
+        inactive: Implicit::No,
+        active: Implicit::AuthAdmin,
+        annotations: List::new(alloc),
+    })
+}
+
+/// A rule for active sessions alone.
+fn rule(alloc: Global, identity: &str, action: &str, value: Implicit) -> Result<RuleEntry, Fail> {
+    Ok(RuleEntry {
+        identities: texts(alloc, identity)?,
+        actions: texts(alloc, action)?,
+        any: None,
+        inactive: None,
+        active: Some(value),
+        pairs: List::new(alloc),
+    })
+}
+
+fn rules(alloc: Global) -> Result<RuleList, Fail>
+    ensures short { IfOk result (λ rules. IsShort rules) }
+{
+    let mut rules = List::new(alloc);
+    rules.try_push(rule(alloc, "unix-user:ann", "clock.*", Implicit::AuthSelf)?)?;
+    rules.try_push(rule(alloc, "unix-group:wheel", "*", Implicit::No)?)?;
+    rules.try_push(rule(alloc, "unix-group:w*", "clock.set", Implicit::Yes)?)?;
+    rules.try_push(rule(
+        alloc,
+        "unix-group:staff",
+        "clock.set",
+        Implicit::AuthSelfKeep,
+    )?)?;
+    Ok(rules)
+}
+
+fn policy(alloc: Global) -> Result<Policy, Fail>
+    ensures entries { IfOk result (λ policy. IsShort policy.entries) }
+{
+    let mut policy = Loaded::empty(alloc).policy;
+    policy.actions.try_push(set_clock(alloc)?)?;
+    policy.entries = rules(alloc)?;
+    Ok(policy)
+}
+
+fn user(alloc: Global, uid: u32, label: &str, gids: &[u32]) -> Result<User, Fail> {
+    Ok(User {
+        uid,
+        name: Text::new(alloc),
+        label: text(alloc, label)?,
+        gids: List::try_from_slice(alloc, gids)?,
+    })
+}
+
+fn group(alloc: Global, gid: u32, label: &str) -> Result<Group, Fail> {
+    Ok(Group {
+        gid,
+        name: Text::new(alloc),
+        label: text(alloc, label)?,
+    })
+}
+
+fn world(alloc: Global) -> Result<World, Fail> {
+    let mut world = Loaded::empty(alloc).world;
+    world
+        .groups
+        .try_push(group(alloc, 10, "unix-group:wheel")?)?;
+    world
+        .groups
+        .try_push(group(alloc, 50, "unix-group:staff")?)?;
+    world
+        .users
+        .try_push(user(alloc, 1000, "unix-user:ann", &[50, 10])?)?;
+    world
+        .users
+        .try_push(user(alloc, 1001, "unix-user:bob", &[50, 10])?)?;
+    world
+        .users
+        .try_push(user(alloc, 1002, "unix-user:eve", &[10, 50, 99])?)?;
+    Ok(world)
+}
+
+#[test]
+fn actions_are_found(rt: HostRuntime) -> Result<(), Fail> {
+    let alloc = rt.alloc();
+    let policy = policy(alloc)?;
+    assert!(rt; action(&policy, &text(alloc, "clock.set")?).is_some());
+    assert!(rt; action(&policy, &text(alloc, "clock")?).is_none());
+    Ok(())
+}
+
+#[test]
+fn the_last_rule_at_the_last_place_decides(rt: HostRuntime) -> Result<(), Fail> {
+    let alloc = rt.alloc();
+    let policy = policy(alloc)?;
+    let world = world(alloc)?;
+    let id = text(alloc, "clock.set")?;
+    let active = RuleSource::Default(Category::Active);
+    let any = RuleSource::Default(Category::Any);
+    let rows = [
+        (
+            1000,
+            Category::Active,
+            Implicit::AuthSelf,
+            RuleSource::Entry(0),
+        ),
+        (1000, Category::Any, Implicit::No, any),
+        (1001, Category::Active, Implicit::Yes, RuleSource::Entry(2)),
+        (
+            1002,
+            Category::Active,
+            Implicit::AuthSelfKeep,
+            RuleSource::Entry(3),
+        ),
+        (1003, Category::Active, Implicit::AuthAdmin, active),
+    ];
+    for (uid, category, value, source) in rows {
+        assert!(rt; implicit(&policy, &world, uid, category, &id) == Some((value, source)));
+    }
+    assert!(rt;
+        implicit(
+            &policy,
+            &world,
+            1000,
+            Category::Active,
+            &text(alloc, "clock")?
+        )
+        .is_none()
+    );
+    Ok(())
+}
