@@ -3,7 +3,6 @@ ghost use Rattle.std.specs.Prelude.{◌≡◌, ◌==◌, ◌&&◌, not, flat_map
 ghost use Rattle.authority_model.specs.Admins.{members, members_of_word};
 ghost use Rattle.authority_model.specs.Lists.{any_of};
 ghost use Rattle.authority_model.specs.Values.{same_identity};
-ghost use Rattle.authority_model.specs.Words.{Bytes};
 ghost use Rattle.admin_identities.specs.Adding.{added, member_of};
 
 use authority_model::{User, World};

@@ -3,8 +3,7 @@ ghost use Rattle.std.specs.Prelude.{◌≡◌, ◌==◌, option_map, option_and_
 ghost use Rattle.std.specs.List.{before_first};
 ghost use Rattle.std.specs.Option.{option_copied};
 ghost use Rattle.std.specs.Result.{result_ok, result_err};
-ghost use Rattle.pk_types.specs.declared.values.Identity.{Identity as TheIdentity};
-ghost use Rattle.authority_model.specs.Lists.{or_else, any_of};
+ghost use Rattle.authority_model.specs.Lists.{any_of};
 ghost use Rattle.authority_model.specs.Words.{after_front, number_of};
 ghost use Rattle.authority_model.specs.Worlds.{user_of_word, group_of_word};
 ghost use Rattle.authority_model.specs.Identities.{is_kind};

@@ -1,9 +1,9 @@
-// Copies with ample memory, and the text that a locale chooses.
+// Copies with ample memory, the text that a locale chooses, and the identity that a text names.
 use crate::{
-    Action, FileFault, Group, Loaded, Localized, LocalizedList, Process, RuleEntry, Session, User,
-    localized,
+    Action, FileFault, Group, IdentityFault, Loaded, Localized, LocalizedList, Process, RuleEntry,
+    Session, User, localized,
 };
-use pk_types::{ActionId, Implicit, List, Text, TextList, TryCopy};
+use pk_types::{ActionId, Identity, Implicit, List, Text, TextList, TryCopy};
 use std::alloc::Global;
 use std::test::Fail;
 
@@ -145,5 +145,42 @@ fn loads_are_copied(rt: HostRuntime) -> Result<(), Fail> {
     assert!(rt; copy.policy.entries.len() == 1);
     assert!(rt; copy.policy.admins.len() == 1);
     assert!(rt; copy.world.processes.is_empty());
+    Ok(())
+}
+
+/// A user whose name is a number.
+fn numbered(alloc: Global) -> Result<User, Fail> {
+    Ok(User {
+        uid: 1001,
+        name: text(alloc, "7")?,
+        label: text(alloc, "unix-user:7")?,
+        gids: List::new(alloc),
+    })
+}
+
+#[test]
+fn identities_are_named(rt: HostRuntime) -> Result<(), Fail> {
+    let alloc = rt.alloc();
+    let mut world = Loaded::empty(alloc).world;
+    world.users.try_push(user(alloc)?)?;
+    world.users.try_push(numbered(alloc)?)?;
+    world.groups.try_push(group(alloc)?)?;
+    let rows = [
+        ("unix-user:a", Ok(Identity::User(1000))),
+        ("unix-group:w", Ok(Identity::Group(10))),
+        ("unix-user:7", Ok(Identity::User(7))),
+        ("unix-group:4294967295", Ok(Identity::Group(4_294_967_295))),
+        ("unix-user:4294967296", Err(IdentityFault::Unknown)),
+        ("unix-user:07", Err(IdentityFault::Unknown)),
+        ("unix-user:w", Err(IdentityFault::Unknown)),
+        ("unix-netgroup:w", Err(IdentityFault::Kind)),
+        (":unix-user:a", Err(IdentityFault::Kind)),
+        ("unix-user", Err(IdentityFault::NoColon)),
+    ];
+    for (words, wanted) in rows {
+        let words = text(alloc, words)?;
+        assert!(rt; world.identity(&words) == wanted, "{wanted:?}");
+        assert!(rt; world.identity_of(words.bytes()) == wanted.ok());
+    }
     Ok(())
 }

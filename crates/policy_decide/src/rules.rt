@@ -1,5 +1,5 @@
 // The rules that match at an identity place.
-ghost use Rattle.std.specs.Prelude.{◌≡◌, ◌<◌, ◌^◌, length};
+ghost use Rattle.std.specs.Prelude.{◌≡◌};
 ghost use Rattle.std.specs.Option.{option_map};
 ghost use Rattle.pk_types.specs.Glob.{matches as matches_glob};
 ghost use Rattle.authority_model.specs.Lists.{any_of};
