@@ -11,7 +11,7 @@ const CHECKS: &str =
 const ANSWERS: &str =
     "1 1 yes default:any\n1 2 no default:any\n1 3 challenge default:any\n2 1 yes root\n1 4 error NotAuthorized not-trusted\n2 2 no default:any\n1 5 error Failed unknown-action\n1 6 error Failed unknown-subject\n";
 
-const ROWS: [Row; 24] = [
+const ROWS: [Row; 26] = [
     ("", "", "Done", 0),
     (CHECKS, ANSWERS, "Done", 0),
     ("action a.yes yes yes yes", "", "Done", 0),
@@ -19,9 +19,11 @@ const ROWS: [Row; 24] = [
     ("peer 1 1000\nchek 1 1\npeer 0 0\n", "", "BadLine 2 Word", 6),
     ("peer 0 0\n", "", "BadLine 1 Number", 6),
     ("peer 1\n", "", "BadLine 1 Count", 6),
-    ("action a auth_self_keep no no\n", "", "BadLine 1 Value", 6),
-    ("process 5 5 7 s1\n", "", "BadLine 1 Value", 6),
-    ("check 1 1 process:1:1 a ask\n", "", "BadLine 1 Value", 6),
+    ("action a auth_keep no no\n", "", "BadLine 1 Value", 6),
+    ("process 5 5 7 \n", "", "BadLine 1 Value", 6),
+    ("check 1 1 process:1:1 a no\n", "", "BadLine 1 Value", 6),
+    ("imply a b\n", "", "BadLine 1 Value", 6),
+    ("action a no no no\ngone-action a\nowner a u\n", "", "BadLine 3 Value", 6),
     ("at 5\nat 05\n", "", "BadLine 2 Number", 6),
     (
         "at 9\nprocess 5 5 7 -\naction a auth_self yes yes\npeer 1 7\nat 3\ncheck 1 1 process:5:5 a\nat 4611686018427387904\ncheck 1 2 process:5:5 a\n",

@@ -3,8 +3,6 @@ use Rattle.std.proofs.Common.{◌≡◌, ◌+◌, ◌++◌, [], ◌∷◌, List,
 use Rattle.authority_model.specs.declared.event.Event.{Event}
 use Rattle.authority_model.specs.declared.journal.Item.{Item}
 use Rattle.authority_model.specs.declared.load.Loaded.{Loaded}
-use Rattle.authority_model.specs.declared.policy.Action.{Action}
-use Rattle.authority_model.specs.declared.world.Process.{Process}
 use Rattle.authority_model.specs.Given.{next, event_given, load_given}
 use Rattle.scenario_text.specs.declared.fault.LineKind.{LineKind}
 use Rattle.scenario_text.specs.declared.fault.LineKind.TheVariants as kind
@@ -12,8 +10,8 @@ use Rattle.scenario_text.specs.declared.step.Step.{Step}
 use Rattle.scenario_text.specs.declared.step.Step.TheVariants as step
 use Rattle.scenario_text.specs.Faults.{◌>>=◌}
 use Rattle.scenario_text.specs.Lines.{step_of}
-use Rattle.scenario_run.specs.Draft.{put_in, same_action, same_process}
-use Rattle.scenario_run.specs.Scene.{Scene, begun, acted, at_moment, plain_action, with_actions, with_processes, with_past, put_action, put_process, run_step, run_line}
+use Rattle.scenario_run.specs.Drafts.{drafted}
+use Rattle.scenario_run.specs.Scene.{Scene, begun, reloaded, acted, at_moment, with_draft, with_past, run_step, run_line}
 use Rattle.polkit_daemon.specs.Replay.{Ran, after_line, run, Extends}
 
 pub same_extends : (past : List Item) → Extends past past
@@ -34,22 +32,18 @@ acted_extends s caller event =
 scene_extends : (s next s' : Scene) → Extends next.past s.past → next ≡ s' → Extends s'.past s.past
 scene_extends s next s' g e = subst (λ (t : Scene). Extends t.past s.past) e g
 
--- what is put into the draft leaves the items
-put_keeps : {A : Type 0} (r : Result (List A) LineKind) (with_rows : List A → Scene) (s s' : Scene) → ((rows : List A) → (with_rows rows).past ≡ s.past)
-    → (r >>= (λ rows. Ok (with_rows rows))) ≡ Ok s' → Extends s'.past s.past
-put_keeps (Ok rows) with_rows s s' keeps e =
-    scene_extends s (with_rows rows) s' (subst (λ (p : List Item). Extends p s.past) (sym (keeps rows)) (same_extends s.past)) (cc)
-put_keeps (Err k) with_rows s s' keeps e = absurd (cc)
+-- a change of the draft leaves the items
+draft_extends : (r : Result Loaded LineKind) (s s' : Scene) → (r >>= (λ draft. Ok (with_draft s draft))) ≡ Ok s' → Extends s'.past s.past
+draft_extends (Ok draft) s s' e = scene_extends s (with_draft s draft) s' (same_extends s.past) (cc)
+draft_extends (Err k) s s' e = absurd (cc)
 
 step_extends : (s : Scene) (st : Step) (s' : Scene) → run_step s st ≡ Ok s' → Extends s'.past s.past
 step_extends s step.Blank s' e = scene_extends s s s' (same_extends s.past) (cc)
 step_extends s (step.At moment) s' e = scene_extends s (at_moment s moment) s' (same_extends s.past) (cc)
-step_extends s (step.Action id any inactive active) s' e =
-    put_keeps (put_in same_action s.draft.policy.actions (plain_action id any inactive active)) (with_actions s) s s' (λ rows. refl) e
-step_extends s (step.Process process) s' e =
-    put_keeps (put_in same_process s.draft.world.processes process) (with_processes s) s s' (λ rows. refl) e
+step_extends s step.Reload s' e =
+    scene_extends s (with_past s (reloaded s)) s' (next s.past (load_given 0 s.moment s.draft) ∷ [], refl) (cc)
 step_extends s (step.Act caller event) s' e = scene_extends s (with_past s (acted s caller event)) s' (acted_extends s caller event) (cc)
-step_extends s _ s' e = absurd (cc)
+step_extends s other s' e = draft_extends (drafted s.draft other) s s' e
 
 bound_extends : (r : Result Step LineKind) (s s' : Scene) → (r >>= run_step s) ≡ Ok s' → Extends s'.past s.past
 bound_extends (Ok st) s s' e = step_extends s st s' e

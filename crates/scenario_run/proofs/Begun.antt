@@ -1,5 +1,5 @@
 -- The first load of a scenario, and the last entry of its journal.
-use Rattle.std.proofs.Common.{◌≡◌, ◌<◌, ◌+◌, ◌-◌, ◌==◌, false, zero, suc, slice_get, ◌++◌, [], ◌∷◌, ℕ, List, Option, None, Some, refl, sym, ◌∙◌, ap, subst, length, get_or, reverse, arith}
+use Rattle.std.proofs.Common.{◌≡◌, ◌<◌, ◌+◌, ◌-◌, ◌==◌, false, zero, suc, slice_get, [], ◌∷◌, ℕ, List, Option, Some, refl, sym, ◌∙◌, ap, subst, length, get_or, arith}
 use Rattle.std.proofs.lemmas.List.{get_or_default}
 use Rattle.std.proofs.lemmas.Option.{get_or_from_slice_get}
 use Rattle.authority_model.specs.declared.journal.Entry.{Entry}

@@ -1,4 +1,5 @@
-pub mod Draft
+pub mod Rows
+pub mod Drafts
 pub mod Scene
 pub mod Stages
 pub mod Text

@@ -1,66 +1,171 @@
-// A list in which each key stands once.
-ghost use Rattle.std.specs.Prelude.{◌≡◌, Bool, Ok, OnOk, OnErr, IfErr};
-ghost use Rattle.scenario_text.specs.Faults.{IsFaultOf};
-ghost use Rattle.scenario_run.specs.Draft.{place_of, put_in, same_action, same_process};
+// What a line makes of the draft.
+ghost use Rattle.std.specs.Prelude.{◌≡◌, ◌==◌, ◌&&◌, Ok, OnOk, IfErr, position, bytes_eq};
+ghost use Rattle.scenario_text.specs.Faults.{Gives, IsFaultOf};
+ghost use Rattle.scenario_run.specs.Drafts.{plain_action, user_row, put_user, group_row, put_group, put_session, put_process, without_process, without_session, without_action, drafted};
 
-use authority_model::{Action, Process};
-use pk_types::{List, NoMemory};
-use scenario_text::LineKind;
+use crate::annotations::{imply, own, put_action};
+use crate::rows::{put, take_out};
+use crate::texts::{group_label, user_label};
+use authority_model::{Action, GidList, Group, Loaded, Process, Session, User};
+use pk_types::{ActionId, Implicit, List, Text};
+use scenario_text::{LineKind, Step};
+use std::alloc::Global;
 
-/// How many rows a list of the draft may have.
-const MAX_ROWS: usize = 1048576;
-
-/// A row of the draft, which stands once for its key.
-pub trait Keyed: Drop {
-    /// Whether two rows have one key.
-    ghost same: { Self → Self → Bool };
-
-    fn has_key_of(&self, other: &Self) -> bool
-        ensures same { result ≡ same self.now other.now };
-}
-
-impl Keyed for Action {
-    ghost same = { same_action };
-
-    fn has_key_of(&self, other: &Action) -> bool {
-        self.id.bytes() == other.id.bytes()
-    }
-}
-
-impl Keyed for Process {
-    ghost same = { same_process };
-
-    fn has_key_of(&self, other: &Process) -> bool {
-        self.pid == other.pid
-    }
-}
-
-/// The place of the first row with the key.
-fn place<T: Keyed>(rows: &[T], row: &T) -> Option<usize>
-    ensures first { result ≡ place_of T.same rows.now row.now }
+/// The action of an action line: it has no texts and no annotations.
+fn plain_action(
+    alloc: Global,
+    id: ActionId,
+    any: Implicit,
+    inactive: Implicit,
+    active: Implicit,
+) -> Action
+    ensures action { result ≡ plain_action id any inactive active }
 {
-    rows.iter().position(|x| x.has_key_of(row))
+    Action {
+        id,
+        descriptions: List::new(alloc),
+        messages: List::new(alloc),
+        vendor: Text::new(alloc),
+        vendor_url: Text::new(alloc),
+        icon: Text::new(alloc),
+        any,
+        inactive,
+        active,
+        annotations: List::new(alloc),
+    }
 }
 
-/// Puts a row in the place of the one with its key, or last.
+fn user_row(alloc: Global, uid: u32, name: Text, gids: GidList) -> Result<User, LineKind>
+    ensures row { Gives result (user_row uid name gids) }
+{
+    let label = user_label(alloc, &name)?;
+    Ok(User {
+        uid,
+        name,
+        label,
+        gids,
+    })
+}
+
+fn put_user(
+    alloc: Global,
+    draft: &mut Loaded,
+    uid: u32,
+    name: Text,
+    gids: GidList,
+) -> Result<(), LineKind>
+    ensures ok { OnOk result (put_user draft.old uid name gids ≡ Ok draft.new) }
+    ensures err { IfErr result (λ kind. IsFaultOf kind (put_user draft.old uid name gids)) }
+{
+    let user = user_row(alloc, uid, name, gids)?;
+    put(&mut draft.world.users, user)
+}
+
+fn group_row(alloc: Global, gid: u32, name: Text) -> Result<Group, LineKind>
+    ensures row { Gives result (group_row gid name) }
+{
+    let label = group_label(alloc, &name)?;
+    Ok(Group { gid, name, label })
+}
+
+fn put_group(alloc: Global, draft: &mut Loaded, gid: u32, name: Text) -> Result<(), LineKind>
+    ensures ok { OnOk result (put_group draft.old gid name ≡ Ok draft.new) }
+    ensures err { IfErr result (λ kind. IsFaultOf kind (put_group draft.old gid name)) }
+{
+    let group = group_row(alloc, gid, name)?;
+    put(&mut draft.world.groups, group)
+}
+
+fn put_session(draft: &mut Loaded, session: Session) -> Result<(), LineKind>
+    ensures ok { OnOk result (put_session draft.old session ≡ Ok draft.new) }
+    ensures err { IfErr result (λ kind. IsFaultOf kind (put_session draft.old session)) }
+{
+    put(&mut draft.world.sessions, session)
+}
+
+fn put_process(draft: &mut Loaded, process: Process) -> Result<(), LineKind>
+    ensures ok { OnOk result (put_process draft.old process ≡ Ok draft.new) }
+    ensures err { IfErr result (λ kind. IsFaultOf kind (put_process draft.old process)) }
+{
+    put(&mut draft.world.processes, process)
+}
+
+fn process_place(rows: &[Process], pid: u32, start: u64) -> Option<usize>
+    ensures first { result ≡ position (λ p. (p.pid == pid) && (p.start == start)) rows.now }
+{
+    rows.iter().position(|p| p.pid == pid && p.start == start)
+}
+
+fn session_place(rows: &[Session], id: &Text) -> Option<usize>
+    ensures first { result ≡ position (λ s. bytes_eq s.id id.now) rows.now }
+{
+    rows.iter().position(|s| s.id.is_same(id))
+}
+
+fn action_place(rows: &[Action], id: &ActionId) -> Option<usize>
+    ensures first { result ≡ position (λ a. bytes_eq a.id id.now) rows.now }
+{
+    rows.iter().position(|a| a.id.text().is_same(id.text()))
+}
+
+fn take_process(draft: &mut Loaded, pid: u32, start: u64)
+    ensures draft { draft.new ≡ without_process draft.old pid start }
+{
+    let rows = &mut draft.world.processes;
+    let place = process_place(rows.as_slice(), pid, start);
+    take_out(rows, place);
+}
+
+fn take_session(draft: &mut Loaded, id: &Text)
+    ensures draft { draft.new ≡ without_session draft.old id.now }
+{
+    let rows = &mut draft.world.sessions;
+    let place = session_place(rows.as_slice(), id);
+    take_out(rows, place);
+}
+
+fn take_action(draft: &mut Loaded, id: &ActionId)
+    ensures draft { draft.new ≡ without_action draft.old id.now }
+{
+    let rows = &mut draft.policy.actions;
+    let place = action_place(rows.as_slice(), id);
+    take_out(rows, place);
+}
+
+/// Changes the draft as a step says.
 ///
 /// # Errors
-/// `Value` exactly where the row's key is new and the list has its greatest number of rows;
-/// `NoMemory`. The rows then stay as they are.
-pub fn put<T: Keyed>(rows: &mut List<T>, row: T) -> Result<(), LineKind>
-    ensures ok { OnOk result (put_in T.same rows.old row ≡ Ok rows.new) }
-    ensures err { IfErr result (λ kind. IsFaultOf kind (put_in T.same rows.old row)) }
-    ensures same { OnErr result (rows.new ≡ rows.old) }
+/// `Value` where the draft can't be changed so, and for a step that is no line of the draft or
+/// that is not built; `NoMemory`.
+pub fn change(alloc: Global, draft: &mut Loaded, step: Step) -> Result<(), LineKind>
+    ensures ok { OnOk result (drafted draft.old step ≡ Ok draft.new) }
+    ensures err { IfErr result (λ kind. IsFaultOf kind (drafted draft.old step)) }
 {
-    if let Some(at) = place(rows.as_slice(), &row) {
-        rows.set(at, row);
-        return Ok(());
-    }
-    if rows.len() >= MAX_ROWS {
-        return Err(LineKind::Value);
-    }
-    match rows.try_push(row) {
-        Ok(()) => Ok(()),
-        Err(NoMemory) => Err(LineKind::NoMemory),
+    match step {
+        Step::Action {
+            id,
+            any,
+            inactive,
+            active,
+        } => put_action(draft, plain_action(alloc, id, any, inactive, active)),
+        Step::Imply { id, implied } => imply(alloc, draft, &id, &implied),
+        Step::Owner { id, identities } => own(alloc, draft, &id, &identities),
+        Step::User { uid, name, gids } => put_user(alloc, draft, uid, name, gids),
+        Step::Group { gid, name } => put_group(alloc, draft, gid, name),
+        Step::Session { row } => put_session(draft, row),
+        Step::Process { row } => put_process(draft, row),
+        Step::GoneProcess { pid, start } => {
+            take_process(draft, pid, start);
+            Ok(())
+        }
+        Step::GoneSession { id } => {
+            take_session(draft, &id);
+            Ok(())
+        }
+        Step::GoneAction { id } => {
+            take_action(draft, &id);
+            Ok(())
+        }
+        _ => Err(LineKind::Value),
     }
 }

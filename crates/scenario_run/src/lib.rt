@@ -4,7 +4,10 @@
 //! stage is the code's own, and its calls are proved to be that definition.
 #![tactic(auto)]
 
+mod annotations;
 mod draft;
+mod rows;
 mod stage;
+mod texts;
 
 pub use stage::{Stage, Taken};

@@ -1,17 +1,16 @@
 // A run of scenario lines: the draft, and the authority that is asked.
-ghost use Rattle.std.specs.Prelude.{◌≡◌, ◌≤◌, [], Ok, IfOk, OnOk, IfErr};
-ghost use Rattle.authority_model.specs.Built.{IsBuiltEvent};
+ghost use Rattle.std.specs.Prelude.{◌≡◌, ◌≤◌, Ok, IfOk, OnOk, IfErr};
+ghost use Rattle.authority_model.specs.Given.{IsStepped};
 ghost use Rattle.authority_model.specs.Items.{items_of};
 ghost use Rattle.authority_model.specs.Legal.{IsLegal};
-ghost use Rattle.scenario_run.specs.Scene.{plain_action};
 ghost use Rattle.scenario_run.specs.Text.{loads_of};
-ghost use Rattle.scenario_text.specs.Built.{IsBuiltStep};
 ghost use Rattle.scenario_text.specs.Faults.{IsFaultOf};
+ghost use Rattle.scenario_text.specs.Runs.{IsRunnable};
 
-use crate::draft::put;
+use crate::draft::change;
 use authority_core::{Authority, Limits};
-use authority_model::{Action, Event, History, Loaded, Output, Process};
-use pk_types::{ActionId, Implicit, List, NoMemory, Text, TryCopy};
+use authority_model::{Event, History, Loaded, Output};
+use pk_types::{NoMemory, TryCopy};
 use scenario_text::{LineFault, LineKind, Step, read_line};
 use std::alloc::Global;
 use std::marker::Model;
@@ -37,42 +36,17 @@ pub struct Stage {
 impl Model for Stage {
     ghost use Rattle.std.specs.Prelude.{◌≤◌, ◌^◌};
     ghost use Rattle.authority_model.specs.Items.{items_of};
-    ghost use Rattle.authority_model.specs.Built.{IsPlainLoad};
     ghost use Rattle.scenario_run.specs.Scene.{Scene};
 
     ghost Value = { Scene };
 
     ghost view = { λ s. record { draft = s.draft; moment = s.moment; past = items_of s.authority } };
 
-    ghost invariant = { λ s. IsPlainLoad s.draft × (s.moment ≤ 2 ^ 62) };
-}
-
-/// The action of an action line: it has no texts and no annotations.
-fn plain_action(
-    alloc: Global,
-    id: ActionId,
-    any: Implicit,
-    inactive: Implicit,
-    active: Implicit,
-) -> Action
-    ensures action { result ≡ plain_action id any inactive active }
-{
-    Action {
-        id,
-        descriptions: List::new(alloc),
-        messages: List::new(alloc),
-        vendor: Text::new(alloc),
-        vendor_url: Text::new(alloc),
-        icon: Text::new(alloc),
-        any,
-        inactive,
-        active,
-        annotations: List::new(alloc),
-    }
+    ghost invariant = { λ s. s.moment ≤ 2 ^ 62 };
 }
 
 impl Stage {
-    ghost use Rattle.scenario_run.specs.Scene.{start, begun, acted, with_actions, with_processes, with_past, put_action, put_process, run_step, run_line};
+    ghost use Rattle.scenario_run.specs.Scene.{start, begun, reloaded, acted, with_past, run_step, run_line};
     ghost use Rattle.scenario_run.specs.Stages.{TakenIs, last_outputs};
 
     /// An empty draft, moment 0 and an authority with an empty journal.
@@ -107,13 +81,10 @@ impl Stage {
         }
     }
 
-    /// Loads the draft, unless an event came before.
-    fn begin(&mut self) -> Result<(), NoMemory>
-        ensures ok { OnOk result (self.new ≡ with_past self.old (begun self.old.draft self.old.moment self.old.past)) }
+    /// Loads the draft.
+    fn reload(&mut self) -> Result<(), NoMemory>
+        ensures ok { OnOk result (self.new ≡ with_past self.old (reloaded self.old)) }
     {
-        if !self.authority.history().entries.is_empty() {
-            return Ok(());
-        }
         let draft = self.draft.try_copy()?;
         match self.authority.load(0, self.moment, draft) {
             Ok(_) => return Ok(()),
@@ -121,9 +92,19 @@ impl Stage {
         }
     }
 
+    /// Loads the draft, unless an event came before.
+    fn begin(&mut self) -> Result<(), NoMemory>
+        ensures ok { OnOk result (self.new ≡ with_past self.old (begun self.old.draft self.old.moment self.old.past)) }
+    {
+        if !self.authority.history().entries.is_empty() {
+            return Ok(());
+        }
+        self.reload()
+    }
+
     /// Submits an event, before which the draft is loaded if there was none.
     fn act(&mut self, caller: u32, event: Event) -> Result<(), NoMemory>
-        requires { IsBuiltEvent event }
+        requires { IsStepped event }
         ensures ok { OnOk result (self.new ≡ with_past self.old (acted self.old caller event)) }
     {
         self.begin()?;
@@ -133,26 +114,9 @@ impl Stage {
         }
     }
 
-    /// Puts an action into the draft.
-    fn put_action(&mut self, action: Action) -> Result<(), LineKind>
-        requires { action.annotations ≡ [] }
-        ensures ok { OnOk result (put_action self.old action ≡ Ok self.new) }
-        ensures err { IfErr result (λ kind. IsFaultOf kind (put_action self.old action)) }
-    {
-        put(&mut self.draft.policy.actions, action)
-    }
-
-    /// Puts a process into the draft.
-    fn put_process(&mut self, process: Process) -> Result<(), LineKind>
-        ensures ok { OnOk result (put_process self.old process ≡ Ok self.new) }
-        ensures err { IfErr result (λ kind. IsFaultOf kind (put_process self.old process)) }
-    {
-        put(&mut self.draft.world.processes, process)
-    }
-
     /// Does what a step says.
     fn take_step(&mut self, alloc: Global, step: Step) -> Result<Taken, LineKind>
-        requires { IsBuiltStep step }
+        requires { IsRunnable step }
         ensures ok { OnOk result (run_step self.old step ≡ Ok self.new) }
         ensures taken { IfOk result (λ taken. TakenIs taken self.old.past self.new.past) }
         ensures err { IfErr result (λ kind. IsFaultOf kind (run_step self.old step)) }
@@ -163,24 +127,18 @@ impl Stage {
                 self.moment = t;
                 Ok(Taken::Draft)
             }
-            Step::Action {
-                id,
-                any,
-                inactive,
-                active,
-            } => {
-                self.put_action(plain_action(alloc, id, any, inactive, active))?;
-                Ok(Taken::Draft)
-            }
-            Step::Process { row } => {
-                self.put_process(row)?;
-                Ok(Taken::Draft)
+            Step::Reload => {
+                self.reload()?;
+                Ok(Taken::Entry)
             }
             Step::Act { caller, event } => {
                 self.act(caller, event)?;
                 Ok(Taken::Entry)
             }
-            _ => Err(LineKind::Value),
+            change_of_draft => {
+                change(alloc, &mut self.draft, change_of_draft)?;
+                Ok(Taken::Draft)
+            }
         }
     }
 

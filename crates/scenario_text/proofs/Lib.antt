@@ -1,3 +1,5 @@
-pub mod TooLarge
 pub mod Digits
 pub mod Orders
+pub mod PlainTexts
+pub mod Reading
+pub mod WordFaults

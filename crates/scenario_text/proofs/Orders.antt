@@ -1,61 +1,55 @@
 -- A line is read numbers first, so its fault is the first in the order of kinds.
-use Rattle.std.proofs.Common.{◌≡◌, ◌==◌, [], ◌∷◌, List, ℕ, Bool, true, false, Option, None, Some, Result, Ok, Err, if◌then◌else◌, refl, length, map, nat_lt, arith}
-use Rattle.std.proofs.lemmas.Bool.{ne_eqb}
+use Rattle.std.proofs.Common.{◌≡◌, [], ◌∷◌, List, ℕ, Bool, true, false, Option, None, Some, Result, Ok, Err, ◌||◌, if◌then◌else◌, refl, length, nat_lt}
 use Rattle.std.specs.List.{list_any}
-use Rattle.pk_types.specs.Decimals.{decimal_up_to}
-use Rattle.pk_types.specs.Values.{implicit_of_word}
-use Rattle.pk_types.specs.declared.values.Implicit.{Implicit}
-use Rattle.pk_types.specs.declared.values.Implicit.TheVariants as implicit
+use Rattle.pk_types.specs.declared.values.Subject.{Subject}
 use Rattle.byte_pieces.specs.Pieces.{pieces_of}
+use Rattle.authority_model.specs.declared.event.Call.{Call}
+use Rattle.authority_model.specs.declared.event.Event.{Event}
 use Rattle.scenario_text.specs.declared.fault.LineKind.{LineKind}
 use Rattle.scenario_text.specs.declared.fault.LineKind.TheVariants as kind
+use Rattle.scenario_text.specs.declared.first_word.CallerWord.{CallerWord}
+use Rattle.scenario_text.specs.declared.first_word.CallerWord.TheVariants as caller_word
+use Rattle.scenario_text.specs.declared.first_word.DraftWord.{DraftWord}
+use Rattle.scenario_text.specs.declared.first_word.DraftWord.TheVariants as draft
 use Rattle.scenario_text.specs.declared.first_word.FirstWord.{FirstWord}
 use Rattle.scenario_text.specs.declared.first_word.FirstWord.TheVariants as first
-use Rattle.scenario_text.specs.Faults.{◌>>=◌, or_fault, fault_in}
-use Rattle.scenario_text.specs.Words.{number_in, positive, positive_in, built_implicit, implicit_in, text_in, id_in, no_session_in, process_subject, subject_parts, subject_in}
-use Rattle.scenario_text.specs.Lines.{first_word_of, check_words, line_of, line_from, step_of_words, is_blank, step_of}
-use Rattle.scenario_text.specs.Order.{is_number, kind_of_faults, faults_of, count_or_kind, word_or_kind, kind_of_words, line_kind}
-
--- no fault but Number
-abbrev OnlyNumber : {A : Type 0} → Result A LineKind → Type 0
-OnlyNumber r = (k : LineKind) → r ≡ Err k → k ≡ kind.Number
-
--- no fault but Value
-abbrev OnlyValue : {A : Type 0} → Result A LineKind → Type 0
-OnlyValue r = (k : LineKind) → r ≡ Err k → k ≡ kind.Value
-
--- a fault that a word has by itself
-data IsOfWord : LineKind → Type 0 where
-  number : IsOfWord kind.Number
-  value : IsOfWord kind.Value
-
--- no fault but Number and Value
-abbrev OnlyOfWord : {A : Type 0} → Result A LineKind → Type 0
-OnlyOfWord r = (k : LineKind) → r ≡ Err k → IsOfWord k
+use Rattle.scenario_text.specs.Faults.{◌>>=◌, fault_in}
+use Rattle.scenario_text.specs.Words.{number_in, number_32_in, number_64_in, caller_in, serial_in, implicit_in, text_in, id_in, local_in, active_in, session_in, texts_in, gids_in}
+use Rattle.scenario_text.specs.Subjects.{subject_in, identity_in}
+use Rattle.scenario_text.specs.DraftLines.{draft_line}
+use Rattle.scenario_text.specs.CallerLines.{serial_event, call_event, announce_call, options_in, check_call, check_event, text_call, subject_call, register_call, unregister_call, respond_call, caller_line}
+use Rattle.scenario_text.specs.Lines.{first_word_of, line_of, line_from, step_of_words, is_blank, step_of}
+use Rattle.scenario_text.specs.Order.{Faults, is_number, is_fault, kind_of_faults, behind_call, draft_faults, caller_faults, faults_of, count_or_kind, word_or_kind, kind_of_words, line_kind}
+use Rattle.scenario_text.proofs.WordFaults.{IsOfWord, number, value, OnlyNumber, OnlyValue, OnlyOfWord, value_of_word, number_only, caller_only, serial_only, implicit_only, text_only, id_only, local_only, active_only, session_only, texts_only, gids_only, subject_only, identity_only, options_only}
 
 -- no word among these is a faulty number
-record NoNumber (faults : List (Option LineKind)) : Type 0 where
+record NoNumber (faults : Faults) : Type 0 where
   none : list_any is_number faults ≡ false
 
 -- what is read has the kind of these faults
-record IsKindOf {B : Type 0} (r : Result B LineKind) (faults : List (Option LineKind)) : Type 0 where
+record IsKindOf {B : Type 0} (r : Result B LineKind) (faults : Faults) : Type 0 where
   same : fault_in r ≡ kind_of_faults faults
 
 -- a word that is a number, before any others
-number_first : {A B : Type 0} (r : Result A LineKind) (f : A → Result B LineKind) {rest : List (Option LineKind)} → OnlyNumber r
+number_first : {A B : Type 0} (r : Result A LineKind) (f : A → Result B LineKind) {rest : Faults} → OnlyNumber r
     → ((x : A) → IsKindOf (f x) rest) → IsKindOf (r >>= f) (fault_in r ∷ rest)
 number_first (Ok x) f only read = record { same = (read x).same }
 number_first (Err k) f only read = record { same = rw (only k refl) refl }
 
-of_word : (k : LineKind) (rest : List (Option LineKind)) → IsOfWord k → NoNumber rest → Some k ≡ kind_of_faults (Some k ∷ rest)
+of_word : (k : LineKind) (rest : Faults) → IsOfWord k → NoNumber rest → Some k ≡ kind_of_faults (Some k ∷ rest)
 of_word _ rest number values = refl
 of_word _ rest value values = rw values.none refl
 
 -- a word of either fault, before words that are no numbers
-then_values : {A B : Type 0} (r : Result A LineKind) (f : A → Result B LineKind) {rest : List (Option LineKind)} → OnlyOfWord r → NoNumber rest
+then_values : {A B : Type 0} (r : Result A LineKind) (f : A → Result B LineKind) {rest : Faults} → OnlyOfWord r → NoNumber rest
     → ((x : A) → IsKindOf (f x) rest) → IsKindOf (r >>= f) (fault_in r ∷ rest)
 then_values (Ok x) f only values read = record { same = (read x).same }
 then_values (Err k) f {rest} only values read = record { same = of_word k rest (only k refl) values }
+
+-- a word that is no number, before words that are none
+then_value : {A B : Type 0} (r : Result A LineKind) (f : A → Result B LineKind) {rest : Faults} → OnlyValue r → NoNumber rest
+    → ((x : A) → IsKindOf (f x) rest) → IsKindOf (r >>= f) (fault_in r ∷ rest)
+then_value r f only values read = then_values r f (value_of_word r only) values read
 
 -- no words are no numbers
 no_words : NoNumber []
@@ -66,169 +60,306 @@ no_fault : {A : Type 0} (x : A) → IsKindOf (Ok x) []
 no_fault x = record { same = refl }
 
 -- a word that is no number, before words that are no numbers
-no_number : {A : Type 0} (r : Result A LineKind) {rest : List (Option LineKind)} → OnlyValue r → NoNumber rest → NoNumber (fault_in r ∷ rest)
+no_number : {A : Type 0} (r : Result A LineKind) {rest : Faults} → OnlyValue r → NoNumber rest → NoNumber (fault_in r ∷ rest)
 no_number (Ok x) only values = record { none = values.none }
 no_number (Err k) only values = record { none = rw (only k refl) values.none }
 
-value_of_word : {A : Type 0} (r : Result A LineKind) → OnlyValue r → OnlyOfWord r
-value_of_word r only k e = rw (only k e) value
+or_swapped : (a b c : Bool) → (a || (b || c)) ≡ (b || (a || c))
+or_swapped true true c = refl
+or_swapped true false c = refl
+or_swapped false true c = refl
+or_swapped false false c = refl
 
-number_of_word : {A : Type 0} (r : Result A LineKind) → OnlyNumber r → OnlyOfWord r
-number_of_word r only k e = rw (only k e) number
-
-or_number : {A : Type 0} (o : Option A) → OnlyNumber (or_fault kind.Number o)
-or_number None k e = cc
-or_number (Some x) k e = cc
-
-number_only : (greatest : ℕ) (word : List ℕ) → OnlyNumber (number_in greatest word)
-number_only greatest word = or_number (decimal_up_to greatest word)
-
-if_number : {A : Type 0} (b : Bool) (x : A) → OnlyNumber (if b then Err kind.Number else Ok x)
-if_number true x k e = cc
-if_number false x k e = cc
-
-bind_number : (r : Result ℕ LineKind) → OnlyNumber r → OnlyNumber (r >>= positive)
-bind_number (Ok n) only k e = if_number (n == 0) n k e
-bind_number (Err k') only k e = only k cc
-
-positive_only : (greatest : ℕ) (word : List ℕ) → OnlyNumber (positive_in greatest word)
-positive_only greatest word = bind_number (number_in greatest word) (number_only greatest word)
-
-built_value : (o : Option Implicit) → OnlyValue (built_implicit o)
-built_value None k e = cc
-built_value (Some implicit.Yes) k e = cc
-built_value (Some implicit.No) k e = cc
-built_value (Some implicit.AuthSelf) k e = cc
-built_value (Some implicit.AuthAdmin) k e = cc
-built_value (Some implicit.AuthSelfKeep) k e = cc
-built_value (Some implicit.AuthAdminKeep) k e = cc
-
-implicit_only : (word : List ℕ) → OnlyValue (implicit_in word)
-implicit_only word = built_value (implicit_of_word word)
-
-if_value : {A : Type 0} (b : Bool) (x : A) → OnlyValue (if b then Ok x else Err kind.Value)
-if_value true x k e = cc
-if_value false x k e = cc
-
-id_only : (word : List ℕ) → OnlyValue (id_in word)
-id_only word = if_value _ word
-
-session_only : (word : List ℕ) → OnlyValue (no_session_in word)
-session_only word = if_value _ None
-
-text_only : (word : List ℕ) → OnlyValue (text_in word)
-text_only word = after_empty (length word == 0) _ word
-  where
-    after_empty : (b c : Bool) (x : List ℕ) → OnlyValue (if b then Err kind.Value else if c then Ok x else Err kind.Value)
-    after_empty true c x k e = cc
-    after_empty false c x k e = if_value c x k e
-
-bind_of_word : {A B : Type 0} (r : Result A LineKind) (f : A → Result B LineKind) → OnlyOfWord r → ((x : A) → OnlyOfWord (f x)) → OnlyOfWord (r >>= f)
-bind_of_word (Ok x) f only rest k e = rest x k e
-bind_of_word (Err k') f only rest k e = only k cc
-
-ok_of_word : {A : Type 0} (x : A) → OnlyOfWord (Ok x)
-ok_of_word x k e = absurd cc
-
-if_of_word : {A : Type 0} (b : Bool) (r : Result A LineKind) → OnlyOfWord r → OnlyOfWord (if b then r else Err kind.Value)
-if_of_word true r only k e = only k e
-if_of_word false r only k e = value_of_word (Err kind.Value) (λ k' e'. cc) k e
-
-process_only : (pid start : List ℕ) → OnlyOfWord (process_subject pid start)
-process_only pid start =
-    bind_of_word (number_in _ pid) _ (number_of_word (number_in _ pid) (number_only _ pid))
-    (λ p. bind_of_word (number_in _ start) _ (number_of_word (number_in _ start) (number_only _ start)) (λ s. ok_of_word _))
-
-parts_only : (parts : List (List ℕ)) → OnlyOfWord (subject_parts parts)
-parts_only [] k e = value_of_word (Err kind.Value) (λ k' e'. cc) k e
-parts_only (a ∷ []) k e = value_of_word (Err kind.Value) (λ k' e'. cc) k e
-parts_only (a ∷ b ∷ []) k e = value_of_word (Err kind.Value) (λ k' e'. cc) k e
-parts_only (word ∷ pid ∷ start ∷ []) k e = if_of_word _ (process_subject pid start) (process_only pid start) k e
-parts_only (a ∷ b ∷ c ∷ d ∷ more) k e = value_of_word (Err kind.Value) (λ k' e'. cc) k e
-
-subject_only : (word : List ℕ) → OnlyOfWord (subject_in word)
-unfolding subject_in
-subject_only word = parts_only (pieces_of 58 word)
+-- the order of the words says nothing
+swapped : {B : Type 0} (r : Result B LineKind) (a b : Option LineKind) (rest : Faults) → IsKindOf r (b ∷ a ∷ rest) → IsKindOf r (a ∷ b ∷ rest)
+swapped r a b rest read = record {
+  same = rw (or_swapped (is_number a) (is_number b) (list_any is_number rest), or_swapped (is_fault a) (is_fault b) (list_any is_fault rest)) read.same;
+}
 
 -- the words of a line with a right count, or another count
-abbrev SameKind : FirstWord → List (List ℕ) → Type 0
-SameKind word args = fault_in (line_of word args) ≡ count_or_kind (faults_of word args)
+abbrev IsDraftKind : DraftWord → List (List ℕ) → Type 0
+IsDraftKind word args = fault_in (draft_line word args) ≡ count_or_kind (draft_faults word args)
 
-at_order : (args : List (List ℕ)) → SameKind first.At args
+at_order : (args : List (List ℕ)) → IsDraftKind draft.At args
 at_order (moment ∷ []) = (number_first (number_in _ moment) _ (number_only _ moment) (λ t. no_fault _)).same
 at_order [] = refl
 at_order (a ∷ b ∷ more) = refl
 
-action_order : (args : List (List ℕ)) → SameKind first.Action args
+action_order : (args : List (List ℕ)) → IsDraftKind draft.Action args
 action_order (id ∷ any ∷ inactive ∷ active ∷ []) =
     let last = no_number (implicit_in active) (implicit_only active) no_words in
     let later = no_number (implicit_in inactive) (implicit_only inactive) last in
     let behind = no_number (implicit_in any) (implicit_only any) later in
-    (then_values (id_in id) _ (value_of_word (id_in id) (id_only id)) behind
-    (λ i. then_values (implicit_in any) _ (value_of_word (implicit_in any) (implicit_only any)) later
-    (λ a. then_values (implicit_in inactive) _ (value_of_word (implicit_in inactive) (implicit_only inactive)) last
-    (λ b. then_values (implicit_in active) _ (value_of_word (implicit_in active) (implicit_only active)) no_words (λ c. no_fault _))))).same
+    (then_value (id_in id) _ (id_only id) behind
+    (λ i. then_value (implicit_in any) _ (implicit_only any) later
+    (λ a. then_value (implicit_in inactive) _ (implicit_only inactive) last
+    (λ b. then_value (implicit_in active) _ (implicit_only active) no_words (λ c. no_fault _))))).same
 action_order [] = refl
 action_order (a ∷ []) = refl
 action_order (a ∷ b ∷ []) = refl
 action_order (a ∷ b ∷ c ∷ []) = refl
 action_order (a ∷ b ∷ c ∷ d ∷ e ∷ more) = refl
 
-process_order : (args : List (List ℕ)) → SameKind first.Process args
+imply_order : (args : List (List ℕ)) → IsDraftKind draft.Imply args
+imply_order (id ∷ implied ∷ []) =
+    (then_value (id_in id) _ (id_only id) (no_number (id_in implied) (id_only implied) no_words)
+    (λ i. then_value (id_in implied) _ (id_only implied) no_words (λ j. no_fault _))).same
+imply_order [] = refl
+imply_order (a ∷ []) = refl
+imply_order (a ∷ b ∷ c ∷ more) = refl
+
+owner_order : (args : List (List ℕ)) → IsDraftKind draft.Owner args
+owner_order (id ∷ identities ∷ []) =
+    (then_value (id_in id) _ (id_only id) (no_number (texts_in identities) (texts_only identities) no_words)
+    (λ i. then_value (texts_in identities) _ (texts_only identities) no_words (λ os. no_fault _))).same
+owner_order [] = refl
+owner_order (a ∷ []) = refl
+owner_order (a ∷ b ∷ c ∷ more) = refl
+
+user_order : (args : List (List ℕ)) → IsDraftKind draft.User args
+user_order (uid ∷ name ∷ gids ∷ []) =
+    (number_first (number_32_in uid) _ (number_only _ uid)
+    (λ u. swapped _ (fault_in (text_in name)) (fault_in (gids_in gids)) [] (number_first (gids_in gids) _ (gids_only gids)
+    (λ gs. then_value (text_in name) _ (text_only name) no_words (λ n. no_fault _))))).same
+user_order [] = refl
+user_order (a ∷ []) = refl
+user_order (a ∷ b ∷ []) = refl
+user_order (a ∷ b ∷ c ∷ d ∷ more) = refl
+
+group_order : (args : List (List ℕ)) → IsDraftKind draft.Group args
+group_order (gid ∷ name ∷ []) =
+    (number_first (number_32_in gid) _ (number_only _ gid) (λ g. then_value (text_in name) _ (text_only name) no_words (λ n. no_fault _))).same
+group_order [] = refl
+group_order (a ∷ []) = refl
+group_order (a ∷ b ∷ c ∷ more) = refl
+
+session_order : (args : List (List ℕ)) → IsDraftKind draft.Session args
+session_order (id ∷ uid ∷ local ∷ active ∷ []) =
+    let last = no_number (active_in active) (active_only active) no_words in
+    (swapped _ (fault_in (text_in id)) (fault_in (number_32_in uid)) _ (number_first (number_32_in uid) _ (number_only _ uid)
+    (λ u. then_value (text_in id) _ (text_only id) (no_number (local_in local) (local_only local) last)
+    (λ i. then_value (local_in local) _ (local_only local) last
+    (λ l. then_value (active_in active) _ (active_only active) no_words (λ a. no_fault _)))))).same
+session_order [] = refl
+session_order (a ∷ []) = refl
+session_order (a ∷ b ∷ []) = refl
+session_order (a ∷ b ∷ c ∷ []) = refl
+session_order (a ∷ b ∷ c ∷ d ∷ e ∷ more) = refl
+
+process_order : (args : List (List ℕ)) → IsDraftKind draft.Process args
 process_order (pid ∷ start ∷ uid ∷ session ∷ []) =
-    (number_first (number_in _ pid) _ (number_only _ pid)
-    (λ p. number_first (number_in _ start) _ (number_only _ start)
-    (λ s. number_first (number_in _ uid) _ (number_only _ uid)
-    (λ u. then_values (no_session_in session) _ (value_of_word (no_session_in session) (session_only session)) no_words (λ n. no_fault _))))).same
+    (number_first (number_32_in pid) _ (number_only _ pid)
+    (λ p. number_first (number_64_in start) _ (number_only _ start)
+    (λ s. number_first (number_32_in uid) _ (number_only _ uid)
+    (λ u. then_value (session_in session) _ (session_only session) no_words (λ n. no_fault _))))).same
 process_order [] = refl
 process_order (a ∷ []) = refl
 process_order (a ∷ b ∷ []) = refl
 process_order (a ∷ b ∷ c ∷ []) = refl
 process_order (a ∷ b ∷ c ∷ d ∷ e ∷ more) = refl
 
-peer_order : (args : List (List ℕ)) → SameKind first.Peer args
+gone_process_order : (args : List (List ℕ)) → IsDraftKind draft.GoneProcess args
+gone_process_order (pid ∷ start ∷ []) =
+    (number_first (number_32_in pid) _ (number_only _ pid) (λ p. number_first (number_64_in start) _ (number_only _ start) (λ s. no_fault _))).same
+gone_process_order [] = refl
+gone_process_order (a ∷ []) = refl
+gone_process_order (a ∷ b ∷ c ∷ more) = refl
+
+gone_session_order : (args : List (List ℕ)) → IsDraftKind draft.GoneSession args
+gone_session_order (id ∷ []) = (then_value (text_in id) _ (text_only id) no_words (λ i. no_fault _)).same
+gone_session_order [] = refl
+gone_session_order (a ∷ b ∷ more) = refl
+
+gone_action_order : (args : List (List ℕ)) → IsDraftKind draft.GoneAction args
+gone_action_order (id ∷ []) = (then_value (id_in id) _ (id_only id) no_words (λ i. no_fault _)).same
+gone_action_order [] = refl
+gone_action_order (a ∷ b ∷ more) = refl
+
+reload_order : (args : List (List ℕ)) → IsDraftKind draft.Reload args
+reload_order [] = refl
+reload_order (a ∷ more) = refl
+
+draft_order : (word : DraftWord) (args : List (List ℕ)) → IsDraftKind word args
+draft_order draft.At args = at_order args
+draft_order draft.Action args = action_order args
+draft_order draft.Imply args = imply_order args
+draft_order draft.Owner args = owner_order args
+draft_order draft.User args = user_order args
+draft_order draft.Group args = group_order args
+draft_order draft.Session args = session_order args
+draft_order draft.Process args = process_order args
+draft_order draft.GoneProcess args = gone_process_order args
+draft_order draft.GoneSession args = gone_session_order args
+draft_order draft.GoneAction args = gone_action_order args
+draft_order draft.Reload args = reload_order args
+
+-- the same of a line of a connection
+abbrev IsCallerKind : CallerWord → List (List ℕ) → Type 0
+IsCallerKind word args = fault_in (caller_line word args) ≡ count_or_kind (caller_faults word args)
+
+then_kept : {A B : Type 0} (r : Result A LineKind) (f : A → B) {faults : Faults} → IsKindOf r faults → IsKindOf (r >>= (λ x. Ok (f x))) faults
+then_kept (Ok x) f read = record { same = read.same }
+then_kept (Err k) f read = record { same = read.same }
+
+-- a call has the faults of N S and of what is said
+called : (caller serial : List ℕ) (said : Result Call LineKind) {faults : Faults} → IsKindOf said faults
+    → fault_in (call_event caller serial said) ≡ count_or_kind (behind_call caller serial faults)
+called caller serial said read =
+    (number_first (caller_in caller) _ (caller_only caller) (λ c. number_first (serial_in serial) _ (serial_only serial) (λ s. then_kept said _ read))).same
+
+replied : (caller serial : List ℕ) (event : ℕ → Event) → fault_in (serial_event caller serial event) ≡ count_or_kind (behind_call caller serial [])
+replied caller serial event =
+    (number_first (caller_in caller) _ (caller_only caller) (λ c. number_first (serial_in serial) _ (serial_only serial) (λ s. no_fault _))).same
+
+peer_order : (args : List (List ℕ)) → IsCallerKind caller_word.Peer args
 peer_order (caller ∷ uid ∷ []) =
-    (number_first (positive_in _ caller) _ (positive_only _ caller)
-    (λ c. number_first (number_in _ uid) _ (number_only _ uid) (λ u. no_fault _))).same
+    (number_first (caller_in caller) _ (caller_only caller) (λ c. number_first (number_32_in uid) _ (number_only _ uid) (λ u. no_fault _))).same
 peer_order [] = refl
 peer_order (a ∷ []) = refl
 peer_order (a ∷ b ∷ c ∷ more) = refl
 
--- further words of a check are no numbers
-more_none : (more : List (List ℕ)) → NoNumber (map (λ word. Some kind.Value) more)
-more_none [] = no_words
-more_none (word ∷ more) = record { none = (more_none more).none }
+depart_order : (args : List (List ℕ)) → IsCallerKind caller_word.Depart args
+depart_order (caller ∷ []) = (number_first (caller_in caller) _ (caller_only caller) (λ c. no_fault _)).same
+depart_order [] = refl
+depart_order (a ∷ b ∷ more) = refl
 
--- a further word of a check is a fault
-more_last : {A : Type 0} (more : List (List ℕ)) (x : A)
-    → IsKindOf (if length more == 0 then Ok x else Err kind.Value) (map (λ word. Some kind.Value) more)
-more_last [] x = no_fault x
-more_last (word ∷ more) x = record { same = rw (ne_eqb (length (word ∷ more)) 0 (λ e. omega (arith, e)), (more_none more).none) refl }
+announce_order : (args : List (List ℕ)) → IsCallerKind caller_word.Announce args
+announce_order (caller ∷ serial ∷ pid ∷ start ∷ []) =
+    called caller serial (announce_call pid start)
+    (number_first (number_32_in pid) _ (number_only _ pid) (λ p. number_first (number_64_in start) _ (number_only _ start) (λ s. no_fault _)))
+announce_order [] = refl
+announce_order (a ∷ []) = refl
+announce_order (a ∷ b ∷ []) = refl
+announce_order (a ∷ b ∷ c ∷ []) = refl
+announce_order (a ∷ b ∷ c ∷ d ∷ e ∷ more) = refl
 
-if_kind : {A : Type 0} (b : Bool) (r : Result A LineKind) (faults : List (Option LineKind)) → IsKindOf r faults
-    → fault_in (if b then Err kind.Count else r) ≡ count_or_kind (if b then None else Some faults)
+if_kind : {A : Type 0} (b : Bool) (r : Result A LineKind) (faults : Option Faults) → fault_in r ≡ count_or_kind faults
+    → fault_in (if b then Err kind.Count else r) ≡ count_or_kind (if b then None else faults)
 if_kind true r faults read = refl
-if_kind false r faults read = read.same
+if_kind false r faults read = read
 
-check_order : (args : List (List ℕ)) → SameKind first.Check args
+check_order : (args : List (List ℕ)) → IsCallerKind caller_word.Check args
+unfolding check_event
 check_order (caller ∷ serial ∷ subject ∷ action ∷ more) =
-    let further = no_number (text_in action) (text_only action) (more_none more) in
-    if_kind (nat_lt 2 (length more)) (check_words caller serial subject action more) _
-    (number_first (positive_in _ caller) _ (positive_only _ caller)
-    (λ c. number_first (positive_in _ serial) _ (positive_only _ serial)
-    (λ s. then_values (subject_in subject) _ (subject_only subject) further
-    (λ b. then_values (text_in action) _ (value_of_word (text_in action) (text_only action)) (more_none more) (λ a. more_last more _)))))
+    let last = no_number (options_in more) (options_only more) no_words in
+    if_kind (nat_lt 2 (length more)) (check_event caller serial subject action more) _
+    (called caller serial (check_call subject action more)
+    (then_values (subject_in subject) _ (subject_only subject) (no_number (text_in action) (text_only action) last)
+    (λ b. then_value (text_in action) _ (text_only action) last
+    (λ a. then_value (options_in more) _ (options_only more) no_words (λ o. no_fault _)))))
 check_order [] = refl
 check_order (a ∷ []) = refl
 check_order (a ∷ b ∷ []) = refl
 check_order (a ∷ b ∷ c ∷ []) = refl
 
-line_order : (word : FirstWord) (args : List (List ℕ)) → SameKind word args
-line_order first.At args = at_order args
-line_order first.Action args = action_order args
-line_order first.Process args = process_order args
-line_order first.Peer args = peer_order args
-line_order first.Check args = check_order args
+text_order : (caller serial text : List ℕ) (said : List ℕ → Call)
+    → fault_in (call_event caller serial (text_call said text)) ≡ count_or_kind (behind_call caller serial (fault_in (text_in text) ∷ []))
+text_order caller serial text said = called caller serial (text_call said text) (then_value (text_in text) _ (text_only text) no_words (λ t. no_fault _))
+
+cancel_order : (args : List (List ℕ)) → IsCallerKind caller_word.Cancel args
+cancel_order (caller ∷ serial ∷ id ∷ []) = text_order caller serial id _
+cancel_order [] = refl
+cancel_order (a ∷ []) = refl
+cancel_order (a ∷ b ∷ []) = refl
+cancel_order (a ∷ b ∷ c ∷ d ∷ more) = refl
+
+register_order : (args : List (List ℕ)) → IsCallerKind caller_word.Register args
+register_order (caller ∷ serial ∷ subject ∷ path ∷ []) =
+    called caller serial (register_call subject path)
+    (then_values (subject_in subject) _ (subject_only subject) (no_number (text_in path) (text_only path) no_words)
+    (λ b. then_value (text_in path) _ (text_only path) no_words (λ p. no_fault _)))
+register_order [] = refl
+register_order (a ∷ []) = refl
+register_order (a ∷ b ∷ []) = refl
+register_order (a ∷ b ∷ c ∷ []) = refl
+register_order (a ∷ b ∷ c ∷ d ∷ e ∷ more) = refl
+
+unregister_order : (args : List (List ℕ)) → IsCallerKind caller_word.Unregister args
+unregister_order (caller ∷ serial ∷ subject ∷ path ∷ []) =
+    called caller serial (unregister_call subject path)
+    (then_values (subject_in subject) _ (subject_only subject) (no_number (text_in path) (text_only path) no_words)
+    (λ b. then_value (text_in path) _ (text_only path) no_words (λ p. no_fault _)))
+unregister_order [] = refl
+unregister_order (a ∷ []) = refl
+unregister_order (a ∷ b ∷ []) = refl
+unregister_order (a ∷ b ∷ c ∷ []) = refl
+unregister_order (a ∷ b ∷ c ∷ d ∷ e ∷ more) = refl
+
+respond_order : (args : List (List ℕ)) → IsCallerKind caller_word.Respond args
+respond_order (caller ∷ serial ∷ cookie ∷ identity ∷ []) =
+    called caller serial (respond_call cookie identity)
+    (swapped _ (fault_in (text_in cookie)) (fault_in (identity_in identity)) []
+    (then_values (identity_in identity) _ (identity_only identity) (no_number (text_in cookie) (text_only cookie) no_words)
+    (λ i. then_value (text_in cookie) _ (text_only cookie) no_words (λ c. no_fault _))))
+respond_order [] = refl
+respond_order (a ∷ []) = refl
+respond_order (a ∷ b ∷ []) = refl
+respond_order (a ∷ b ∷ c ∷ []) = refl
+respond_order (a ∷ b ∷ c ∷ d ∷ e ∷ more) = refl
+
+return_order : (args : List (List ℕ)) → IsCallerKind caller_word.Return args
+return_order (caller ∷ serial ∷ []) = replied caller serial _
+return_order [] = refl
+return_order (a ∷ []) = refl
+return_order (a ∷ b ∷ c ∷ more) = refl
+
+dismiss_order : (args : List (List ℕ)) → IsCallerKind caller_word.Dismiss args
+dismiss_order (caller ∷ serial ∷ []) = replied caller serial _
+dismiss_order [] = refl
+dismiss_order (a ∷ []) = refl
+dismiss_order (a ∷ b ∷ c ∷ more) = refl
+
+fail_order : (args : List (List ℕ)) → IsCallerKind caller_word.Fail args
+fail_order (caller ∷ serial ∷ []) = replied caller serial _
+fail_order [] = refl
+fail_order (a ∷ []) = refl
+fail_order (a ∷ b ∷ c ∷ more) = refl
+
+subject_order : (caller serial subject : List ℕ) (said : Subject → Call)
+    → fault_in (call_event caller serial (subject_call said subject)) ≡ count_or_kind (behind_call caller serial (fault_in (subject_in subject) ∷ []))
+subject_order caller serial subject said =
+    called caller serial (subject_call said subject) (then_values (subject_in subject) _ (subject_only subject) no_words (λ b. no_fault _))
+
+grants_order : (args : List (List ℕ)) → IsCallerKind caller_word.Grants args
+grants_order (caller ∷ serial ∷ subject ∷ []) = subject_order caller serial subject _
+grants_order [] = refl
+grants_order (a ∷ []) = refl
+grants_order (a ∷ b ∷ []) = refl
+grants_order (a ∷ b ∷ c ∷ d ∷ more) = refl
+
+revoke_order : (args : List (List ℕ)) → IsCallerKind caller_word.Revoke args
+revoke_order (caller ∷ serial ∷ subject ∷ []) = subject_order caller serial subject _
+revoke_order [] = refl
+revoke_order (a ∷ []) = refl
+revoke_order (a ∷ b ∷ []) = refl
+revoke_order (a ∷ b ∷ c ∷ d ∷ more) = refl
+
+revoke_id_order : (args : List (List ℕ)) → IsCallerKind caller_word.RevokeId args
+revoke_id_order (caller ∷ serial ∷ id ∷ []) = text_order caller serial id _
+revoke_id_order [] = refl
+revoke_id_order (a ∷ []) = refl
+revoke_id_order (a ∷ b ∷ []) = refl
+revoke_id_order (a ∷ b ∷ c ∷ d ∷ more) = refl
+
+caller_order : (word : CallerWord) (args : List (List ℕ)) → IsCallerKind word args
+caller_order caller_word.Peer args = peer_order args
+caller_order caller_word.Depart args = depart_order args
+caller_order caller_word.Announce args = announce_order args
+caller_order caller_word.Check args = check_order args
+caller_order caller_word.Cancel args = cancel_order args
+caller_order caller_word.Register args = register_order args
+caller_order caller_word.Unregister args = unregister_order args
+caller_order caller_word.Respond args = respond_order args
+caller_order caller_word.Return args = return_order args
+caller_order caller_word.Dismiss args = dismiss_order args
+caller_order caller_word.Fail args = fail_order args
+caller_order caller_word.Grants args = grants_order args
+caller_order caller_word.Revoke args = revoke_order args
+caller_order caller_word.RevokeId args = revoke_id_order args
+
+line_order : (word : FirstWord) (args : List (List ℕ)) → fault_in (line_of word args) ≡ count_or_kind (faults_of word args)
+line_order (first.Draft word) args = draft_order word args
+line_order (first.Caller word) args = caller_order word args
 
 word_order : (word : Option FirstWord) (args : List (List ℕ)) → fault_in (line_from word args) ≡ word_or_kind word args
 word_order None args = refl

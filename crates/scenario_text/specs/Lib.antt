@@ -1,6 +1,9 @@
 pub mod Faults
 pub mod Words
-pub mod Built
+pub mod Subjects
+pub mod Runs
+pub mod DraftLines
+pub mod CallerLines
 pub mod Lines
 pub mod Order
 pub mod Escapes

@@ -1,85 +1,66 @@
 -- What a line of a scenario says, or what is wrong with it.
-use Rattle.std.specs.Prelude.{ℕ, Bool, false, ◌-◌, ◌^◌, ◌==◌, ◌||◌, nat_lt, List, [], ◌∷◌, length, slice_index, Option, None, Some, Result, Ok, Err, codes, if◌then◌else◌}
+use Rattle.std.specs.Prelude.{ℕ, Bool, ◌==◌, ◌||◌, nat_lt, List, [], ◌∷◌, length, slice_index, Option, None, Some, Result, Ok, Err, codes, if◌then◌else◌}
+use Rattle.std.specs.Option.{option_map}
 use Rattle.std.specs.Str.{bytes_eq}
-use Rattle.authority_model.specs.declared.event.Event.TheVariants as event
-use Rattle.authority_model.specs.declared.event.Call.TheVariants as call
 use Rattle.byte_pieces.specs.Pieces.{pieces_of}
+use Rattle.authority_model.specs.Lists.{or_else}
 use Rattle.scenario_text.specs.declared.fault.LineKind.{LineKind}
 use Rattle.scenario_text.specs.declared.fault.LineKind.TheVariants as kind
+use Rattle.scenario_text.specs.declared.first_word.CallerWord.{CallerWord}
+use Rattle.scenario_text.specs.declared.first_word.CallerWord.TheVariants as caller_word
+use Rattle.scenario_text.specs.declared.first_word.DraftWord.{DraftWord}
+use Rattle.scenario_text.specs.declared.first_word.DraftWord.TheVariants as draft
 use Rattle.scenario_text.specs.declared.first_word.FirstWord.{FirstWord}
 use Rattle.scenario_text.specs.declared.first_word.FirstWord.TheVariants as first
 use Rattle.scenario_text.specs.declared.step.Step.{Step}
 use Rattle.scenario_text.specs.declared.step.Step.TheVariants as step
-use Rattle.scenario_text.specs.Faults.{◌>>=◌}
-use Rattle.scenario_text.specs.Words.{number_in, positive_in, implicit_in, text_in, id_in, no_session_in, subject_in}
+use Rattle.scenario_text.specs.DraftLines.{draft_line}
+use Rattle.scenario_text.specs.CallerLines.{caller_line}
+
+-- the words that a line of the draft begins with
+abbrev pub draft_word_of : List ℕ → Option DraftWord
+draft_word_of word =
+    if bytes_eq word (codes "at") then Some draft.At
+    else if bytes_eq word (codes "action") then Some draft.Action
+    else if bytes_eq word (codes "imply") then Some draft.Imply
+    else if bytes_eq word (codes "owner") then Some draft.Owner
+    else if bytes_eq word (codes "user") then Some draft.User
+    else if bytes_eq word (codes "group") then Some draft.Group
+    else if bytes_eq word (codes "session") then Some draft.Session
+    else if bytes_eq word (codes "process") then Some draft.Process
+    else if bytes_eq word (codes "gone-process") then Some draft.GoneProcess
+    else if bytes_eq word (codes "gone-session") then Some draft.GoneSession
+    else if bytes_eq word (codes "gone-action") then Some draft.GoneAction
+    else if bytes_eq word (codes "reload") then Some draft.Reload
+    else None
+
+-- the words that a line of a connection begins with
+abbrev pub caller_word_of : List ℕ → Option CallerWord
+caller_word_of word =
+    if bytes_eq word (codes "peer") then Some caller_word.Peer
+    else if bytes_eq word (codes "depart") then Some caller_word.Depart
+    else if bytes_eq word (codes "announce") then Some caller_word.Announce
+    else if bytes_eq word (codes "check") then Some caller_word.Check
+    else if bytes_eq word (codes "cancel") then Some caller_word.Cancel
+    else if bytes_eq word (codes "register") then Some caller_word.Register
+    else if bytes_eq word (codes "unregister") then Some caller_word.Unregister
+    else if bytes_eq word (codes "respond") then Some caller_word.Respond
+    else if bytes_eq word (codes "return") then Some caller_word.Return
+    else if bytes_eq word (codes "dismiss") then Some caller_word.Dismiss
+    else if bytes_eq word (codes "fail") then Some caller_word.Fail
+    else if bytes_eq word (codes "grants") then Some caller_word.Grants
+    else if bytes_eq word (codes "revoke") then Some caller_word.Revoke
+    else if bytes_eq word (codes "revoke-id") then Some caller_word.RevokeId
+    else None
 
 -- the words that a line begins with
 abbrev pub first_word_of : List ℕ → Option FirstWord
-first_word_of word =
-    if bytes_eq word (codes "at") then Some first.At
-    else if bytes_eq word (codes "action") then Some first.Action
-    else if bytes_eq word (codes "process") then Some first.Process
-    else if bytes_eq word (codes "peer") then Some first.Peer
-    else if bytes_eq word (codes "check") then Some first.Check
-    else None
-
--- at T, where T is a moment in seconds up to 2^62
-abbrev pub at_line : List (List ℕ) → Result Step LineKind
-at_line (moment ∷ []) = do
-  t ← number_in (2 ^ 62) moment
-  Ok (step.At t)
-at_line other = Err kind.Count
-
--- action ID ANY INACTIVE ACTIVE
-abbrev pub action_line : List (List ℕ) → Result Step LineKind
-action_line (id ∷ any ∷ inactive ∷ active ∷ []) = do
-  i ← id_in id
-  a ← implicit_in any
-  b ← implicit_in inactive
-  c ← implicit_in active
-  Ok (step.Action i a b c)
-action_line other = Err kind.Count
-
--- process PID START UID SESSION
-abbrev pub process_line : List (List ℕ) → Result Step LineKind
-process_line (pid ∷ start ∷ uid ∷ session ∷ []) = do
-  p ← number_in (2 ^ 32 - 1) pid
-  s ← number_in (2 ^ 64 - 1) start
-  u ← number_in (2 ^ 32 - 1) uid
-  n ← no_session_in session
-  Ok (step.Process (record { pid = p; start = s; uid = u; session = n }))
-process_line other = Err kind.Count
-
--- peer N UID
-abbrev pub peer_line : List (List ℕ) → Result Step LineKind
-peer_line (caller ∷ uid ∷ []) = do
-  c ← positive_in 1048575 caller
-  u ← number_in (2 ^ 32 - 1) uid
-  Ok (step.Act c (event.Connect u))
-peer_line other = Err kind.Count
-
--- check N S SUBJECT ACTION, where no word behind the action has a form
-abbrev pub check_words : List ℕ → List ℕ → List ℕ → List ℕ → List (List ℕ) → Result Step LineKind
-check_words caller serial subject action more = do
-  c ← positive_in 1048575 caller
-  s ← positive_in (2 ^ 32 - 1) serial
-  b ← subject_in subject
-  a ← text_in action
-  if length more == 0 then Ok (step.Act c (event.Call s false (call.Check b a [] 0 []))) else Err kind.Value
-
--- a check of four to six words behind its first
-abbrev pub check_line : List (List ℕ) → Result Step LineKind
-check_line (caller ∷ serial ∷ subject ∷ action ∷ more) =
-    if nat_lt 2 (length more) then Err kind.Count else check_words caller serial subject action more
-check_line other = Err kind.Count
+first_word_of word = or_else (option_map first.Draft (draft_word_of word)) (option_map first.Caller (caller_word_of word))
 
 -- a line by its first word and the words behind it
 abbrev pub line_of : FirstWord → List (List ℕ) → Result Step LineKind
-line_of first.At args = at_line args
-line_of first.Action args = action_line args
-line_of first.Process args = process_line args
-line_of first.Peer args = peer_line args
-line_of first.Check args = check_line args
+line_of (first.Draft word) args = draft_line word args
+line_of (first.Caller word) args = caller_line word args
 
 -- a line by the word that it begins with, if it is one
 abbrev pub line_from : Option FirstWord → List (List ℕ) → Result Step LineKind

@@ -1,14 +1,24 @@
 -- Which fault a line has, by the order of the kinds over all its words.
-use Rattle.std.specs.Prelude.{ℕ, Bool, true, false, ◌-◌, ◌^◌, nat_lt, List, [], ◌∷◌, length, map, Option, None, Some, if◌then◌else◌}
+use Rattle.std.specs.Prelude.{ℕ, Bool, true, false, ◌^◌, nat_lt, List, [], ◌∷◌, length, Option, None, Some, if◌then◌else◌}
 use Rattle.std.specs.List.{list_any}
 use Rattle.byte_pieces.specs.Pieces.{pieces_of}
 use Rattle.scenario_text.specs.declared.fault.LineKind.{LineKind}
 use Rattle.scenario_text.specs.declared.fault.LineKind.TheVariants as kind
+use Rattle.scenario_text.specs.declared.first_word.CallerWord.{CallerWord}
+use Rattle.scenario_text.specs.declared.first_word.CallerWord.TheVariants as caller_word
+use Rattle.scenario_text.specs.declared.first_word.DraftWord.{DraftWord}
+use Rattle.scenario_text.specs.declared.first_word.DraftWord.TheVariants as draft
 use Rattle.scenario_text.specs.declared.first_word.FirstWord.{FirstWord}
 use Rattle.scenario_text.specs.declared.first_word.FirstWord.TheVariants as first
 use Rattle.scenario_text.specs.Faults.{fault_in}
-use Rattle.scenario_text.specs.Words.{number_in, positive_in, implicit_in, text_in, id_in, no_session_in, subject_in}
+use Rattle.scenario_text.specs.Words.{number_in, number_32_in, number_64_in, caller_in, serial_in, implicit_in, text_in, id_in, local_in, active_in, session_in, texts_in, gids_in}
+use Rattle.scenario_text.specs.Subjects.{subject_in, identity_in}
+use Rattle.scenario_text.specs.CallerLines.{options_in}
 use Rattle.scenario_text.specs.Lines.{first_word_of, is_blank}
+
+-- the faults of words
+abbrev pub Faults : Type 0
+Faults = List (Option LineKind)
 
 -- whether the fault of a word is that it is no number, or one out of its range
 abbrev pub is_number : Option LineKind → Bool
@@ -21,25 +31,62 @@ is_fault None = false
 is_fault (Some k) = true
 
 -- the fault of a line whose words have these faults: Number wherever one is, and else Value
-abbrev pub kind_of_faults : List (Option LineKind) → Option LineKind
+abbrev pub kind_of_faults : Faults → Option LineKind
 kind_of_faults faults = if list_any is_number faults then Some kind.Number else if list_any is_fault faults then Some kind.Value else None
 
--- the faults of the words behind the first one, unless their count is wrong
-abbrev pub faults_of : FirstWord → List (List ℕ) → Option (List (Option LineKind))
-faults_of first.At (moment ∷ []) = Some (fault_in (number_in (2 ^ 62) moment) ∷ [])
-faults_of first.Action (id ∷ any ∷ inactive ∷ active ∷ []) =
+-- the faults of N S and of the words behind them
+abbrev pub behind_call : List ℕ → List ℕ → Faults → Option Faults
+behind_call caller serial faults = Some (fault_in (caller_in caller) ∷ fault_in (serial_in serial) ∷ faults)
+
+-- the faults of a line of the draft, unless the count of its words is wrong
+abbrev pub draft_faults : DraftWord → List (List ℕ) → Option Faults
+draft_faults draft.At (moment ∷ []) = Some (fault_in (number_in (2 ^ 62) moment) ∷ [])
+draft_faults draft.Action (id ∷ any ∷ inactive ∷ active ∷ []) =
     Some (fault_in (id_in id) ∷ fault_in (implicit_in any) ∷ fault_in (implicit_in inactive) ∷ fault_in (implicit_in active) ∷ [])
-faults_of first.Process (pid ∷ start ∷ uid ∷ session ∷ []) =
-    Some (fault_in (number_in (2 ^ 32 - 1) pid) ∷ fault_in (number_in (2 ^ 64 - 1) start) ∷ fault_in (number_in (2 ^ 32 - 1) uid) ∷ fault_in (no_session_in session) ∷ [])
-faults_of first.Peer (caller ∷ uid ∷ []) =
-    Some (fault_in (positive_in 1048575 caller) ∷ fault_in (number_in (2 ^ 32 - 1) uid) ∷ [])
-faults_of first.Check (caller ∷ serial ∷ subject ∷ action ∷ more) =
-    if nat_lt 2 (length more) then None
-    else Some (fault_in (positive_in 1048575 caller) ∷ fault_in (positive_in (2 ^ 32 - 1) serial) ∷ fault_in (subject_in subject) ∷ fault_in (text_in action) ∷ map (λ word. Some kind.Value) more)
-faults_of word other = None
+draft_faults draft.Imply (id ∷ implied ∷ []) = Some (fault_in (id_in id) ∷ fault_in (id_in implied) ∷ [])
+draft_faults draft.Owner (id ∷ identities ∷ []) = Some (fault_in (id_in id) ∷ fault_in (texts_in identities) ∷ [])
+draft_faults draft.User (uid ∷ name ∷ gids ∷ []) = Some (fault_in (number_32_in uid) ∷ fault_in (text_in name) ∷ fault_in (gids_in gids) ∷ [])
+draft_faults draft.Group (gid ∷ name ∷ []) = Some (fault_in (number_32_in gid) ∷ fault_in (text_in name) ∷ [])
+draft_faults draft.Session (id ∷ uid ∷ local ∷ active ∷ []) =
+    Some (fault_in (text_in id) ∷ fault_in (number_32_in uid) ∷ fault_in (local_in local) ∷ fault_in (active_in active) ∷ [])
+draft_faults draft.Process (pid ∷ start ∷ uid ∷ session ∷ []) =
+    Some (fault_in (number_32_in pid) ∷ fault_in (number_64_in start) ∷ fault_in (number_32_in uid) ∷ fault_in (session_in session) ∷ [])
+draft_faults draft.GoneProcess (pid ∷ start ∷ []) = Some (fault_in (number_32_in pid) ∷ fault_in (number_64_in start) ∷ [])
+draft_faults draft.GoneSession (id ∷ []) = Some (fault_in (text_in id) ∷ [])
+draft_faults draft.GoneAction (id ∷ []) = Some (fault_in (id_in id) ∷ [])
+draft_faults draft.Reload [] = Some []
+draft_faults word other = None
+
+-- the faults of a line of a connection, unless the count of its words is wrong
+abbrev pub caller_faults : CallerWord → List (List ℕ) → Option Faults
+caller_faults caller_word.Peer (caller ∷ uid ∷ []) = Some (fault_in (caller_in caller) ∷ fault_in (number_32_in uid) ∷ [])
+caller_faults caller_word.Depart (caller ∷ []) = Some (fault_in (caller_in caller) ∷ [])
+caller_faults caller_word.Announce (caller ∷ serial ∷ pid ∷ start ∷ []) =
+    behind_call caller serial (fault_in (number_32_in pid) ∷ fault_in (number_64_in start) ∷ [])
+caller_faults caller_word.Check (caller ∷ serial ∷ subject ∷ action ∷ more) =
+    if nat_lt 2 (length more) then None else behind_call caller serial (fault_in (subject_in subject) ∷ fault_in (text_in action) ∷ fault_in (options_in more) ∷ [])
+caller_faults caller_word.Cancel (caller ∷ serial ∷ id ∷ []) = behind_call caller serial (fault_in (text_in id) ∷ [])
+caller_faults caller_word.Register (caller ∷ serial ∷ subject ∷ path ∷ []) =
+    behind_call caller serial (fault_in (subject_in subject) ∷ fault_in (text_in path) ∷ [])
+caller_faults caller_word.Unregister (caller ∷ serial ∷ subject ∷ path ∷ []) =
+    behind_call caller serial (fault_in (subject_in subject) ∷ fault_in (text_in path) ∷ [])
+caller_faults caller_word.Respond (caller ∷ serial ∷ cookie ∷ identity ∷ []) =
+    behind_call caller serial (fault_in (text_in cookie) ∷ fault_in (identity_in identity) ∷ [])
+caller_faults caller_word.Return (caller ∷ serial ∷ []) = behind_call caller serial []
+caller_faults caller_word.Dismiss (caller ∷ serial ∷ []) = behind_call caller serial []
+caller_faults caller_word.Fail (caller ∷ serial ∷ []) = behind_call caller serial []
+caller_faults caller_word.Grants (caller ∷ serial ∷ subject ∷ []) = behind_call caller serial (fault_in (subject_in subject) ∷ [])
+caller_faults caller_word.Revoke (caller ∷ serial ∷ subject ∷ []) = behind_call caller serial (fault_in (subject_in subject) ∷ [])
+caller_faults caller_word.RevokeId (caller ∷ serial ∷ id ∷ []) = behind_call caller serial (fault_in (text_in id) ∷ [])
+caller_faults word other = None
+
+-- the faults of the words behind the first one, unless their count is wrong
+abbrev pub faults_of : FirstWord → List (List ℕ) → Option Faults
+faults_of (first.Draft word) args = draft_faults word args
+faults_of (first.Caller word) args = caller_faults word args
 
 -- Count, or the fault of the words
-abbrev pub count_or_kind : Option (List (Option LineKind)) → Option LineKind
+abbrev pub count_or_kind : Option Faults → Option LineKind
 count_or_kind None = Some kind.Count
 count_or_kind (Some faults) = kind_of_faults faults
 

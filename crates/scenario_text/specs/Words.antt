@@ -1,14 +1,11 @@
 -- What the words of a line say.
-use Rattle.std.specs.Prelude.{ℕ, ◌-◌, ◌^◌, ◌==◌, ◌&&◌, List, [], ◌∷◌, length, Option, None, Some, Result, Ok, Err, codes, is_none, if◌then◌else◌}
+use Rattle.std.specs.Prelude.{ℕ, Bool, true, false, ◌-◌, ◌^◌, ◌==◌, ◌&&◌, List, [], ◌∷◌, length, Option, None, Some, Result, Ok, Err, codes, is_none, if◌then◌else◌}
 use Rattle.std.specs.Str.{bytes_eq}
 use Rattle.pk_types.specs.ActionId.{id_fault_of}
 use Rattle.pk_types.specs.Decimals.{decimal_up_to}
 use Rattle.pk_types.specs.Text.{text_fault_of}
 use Rattle.pk_types.specs.Values.{implicit_of_word}
 use Rattle.pk_types.specs.declared.values.Implicit.{Implicit}
-use Rattle.pk_types.specs.declared.values.Implicit.TheVariants as implicit
-use Rattle.pk_types.specs.declared.values.Subject.{Subject}
-use Rattle.pk_types.specs.declared.values.Subject.TheVariants as subject
 use Rattle.byte_pieces.specs.Pieces.{pieces_of}
 use Rattle.scenario_text.specs.declared.fault.LineKind.{LineKind}
 use Rattle.scenario_text.specs.declared.fault.LineKind.TheVariants as kind
@@ -18,6 +15,14 @@ use Rattle.scenario_text.specs.Faults.{◌>>=◌, or_fault}
 abbrev pub number_in : ℕ → List ℕ → Result ℕ LineKind
 number_in greatest word = or_fault kind.Number (decimal_up_to greatest word)
 
+-- a number of 32 bits
+abbrev pub number_32_in : List ℕ → Result ℕ LineKind
+number_32_in word = number_in (2 ^ 32 - 1) word
+
+-- a number of 64 bits
+abbrev pub number_64_in : List ℕ → Result ℕ LineKind
+number_64_in word = number_in (2 ^ 64 - 1) word
+
 -- a number above 0
 abbrev pub positive : ℕ → Result ℕ LineKind
 positive n = if n == 0 then Err kind.Number else Ok n
@@ -26,16 +31,17 @@ positive n = if n == 0 then Err kind.Number else Ok n
 abbrev pub positive_in : ℕ → List ℕ → Result ℕ LineKind
 positive_in greatest word = number_in greatest word >>= positive
 
--- a value whose authorization is not kept
-abbrev pub built_implicit : Option Implicit → Result Implicit LineKind
-built_implicit None = Err kind.Value
-built_implicit (Some implicit.AuthSelfKeep) = Err kind.Value
-built_implicit (Some implicit.AuthAdminKeep) = Err kind.Value
-built_implicit (Some value) = Ok value
+-- the number of a connection
+abbrev pub caller_in : List ℕ → Result ℕ LineKind
+caller_in word = positive_in 1048575 word
+
+-- the serial of a message
+abbrev pub serial_in : List ℕ → Result ℕ LineKind
+serial_in word = positive_in (2 ^ 32 - 1) word
 
 -- an implicit value
 abbrev pub implicit_in : List ℕ → Result Implicit LineKind
-implicit_in word = built_implicit (implicit_of_word word)
+implicit_in word = or_fault kind.Value (implicit_of_word word)
 
 -- a text
 abbrev pub any_text_in : List ℕ → Result (List ℕ) LineKind
@@ -49,22 +55,34 @@ text_in word = if length word == 0 then Err kind.Value else any_text_in word
 abbrev pub id_in : List ℕ → Result (List ℕ) LineKind
 id_in word = if is_none (text_fault_of word) && is_none (id_fault_of word) then Ok word else Err kind.Value
 
--- the session of a process that has none
-abbrev pub no_session_in : List ℕ → Result (Option (List ℕ)) LineKind
-no_session_in word = if bytes_eq word (codes "-") then Ok None else Err kind.Value
+-- true for the first of these words, false for the second
+abbrev pub either_in : List ℕ → List ℕ → List ℕ → Result Bool LineKind
+either_in yes_word no_word word = if bytes_eq word yes_word then Ok true else if bytes_eq word no_word then Ok false else Err kind.Value
 
--- a process by its pid and its start time
-abbrev pub process_subject : List ℕ → List ℕ → Result Subject LineKind
-process_subject pid start = do
-  p ← number_in (2 ^ 32 - 1) pid
-  s ← number_in (2 ^ 64 - 1) start
-  Ok (subject.Process p s)
+-- whether a session is local
+abbrev pub local_in : List ℕ → Result Bool LineKind
+local_in word = either_in (codes "local") (codes "remote") word
 
--- a subject by the parts between its colons
-abbrev pub subject_parts : List (List ℕ) → Result Subject LineKind
-subject_parts (word ∷ pid ∷ start ∷ []) = if bytes_eq word (codes "process") then process_subject pid start else Err kind.Value
-subject_parts other = Err kind.Value
+-- whether a session is active
+abbrev pub active_in : List ℕ → Result Bool LineKind
+active_in word = either_in (codes "active") (codes "idle") word
 
--- the subject of a check: process:PID:START
-unfoldable pub subject_in : List ℕ → Result Subject LineKind
-subject_in word = subject_parts (pieces_of 58 word)
+-- the session of a process, or `-` for none
+abbrev pub session_in : List ℕ → Result (Option (List ℕ)) LineKind
+session_in word = if bytes_eq word (codes "-") then Ok None else text_in word >>= (λ id. Ok (Some id))
+
+-- each of the words
+abbrev pub each_in : {A : Type 0} → (List ℕ → Result A LineKind) → List (List ℕ) → Result (List A) LineKind
+each_in read [] = Ok []
+each_in read (word ∷ words) = do
+  x ← read word
+  xs ← each_in read words
+  Ok (x ∷ xs)
+
+-- texts with `;` between them
+unfoldable pub texts_in : List ℕ → Result (List (List ℕ)) LineKind
+texts_in word = each_in text_in (pieces_of 59 word)
+
+-- gids with commas between them, or `-` for none
+unfoldable pub gids_in : List ℕ → Result (List ℕ) LineKind
+gids_in word = if bytes_eq word (codes "-") then Ok [] else each_in number_32_in (pieces_of 44 word)

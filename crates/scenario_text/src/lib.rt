@@ -5,12 +5,15 @@
 #![tactic(auto)]
 
 mod answer;
+mod caller_lines;
+mod check_options;
+mod draft_lines;
 mod escape;
 mod fault;
 mod first_word;
 mod lines;
-mod number;
 mod step;
+mod subjects;
 #[cfg(test)]
 mod tests;
 mod verdict;

@@ -1,23 +1,24 @@
 // The words of a line, each read by itself.
-ghost use Rattle.std.specs.Prelude.{◌≡◌, ◌≤◌, ◌^◌, ◌-◌, [], ◌∷◌, map, IfOk};
+ghost use Rattle.std.specs.Prelude.{◌≡◌, ◌≤◌, [], ◌∷◌, map, Ok, IfOk};
+ghost use Rattle.pk_types.specs.Text.{IsText};
 ghost use Rattle.scenario_text.specs.Faults.{Gives};
-ghost use Rattle.scenario_text.specs.Words.{number_in, positive_in, implicit_in, any_text_in, text_in, id_in, no_session_in, subject_parts, subject_in};
+ghost use Rattle.scenario_text.specs.Words.{number_in, number_32_in, number_64_in, positive_in, caller_in, serial_in, implicit_in, any_text_in, text_in, id_in, local_in, active_in, session_in, each_in, texts_in, gids_in};
 
 use crate::fault::LineKind;
-use crate::number::number;
+use authority_model::GidList;
 use byte_pieces::pieces;
-use pk_types::{ActionId, IdFault, Implicit, Subject, Text, TextFault};
+use pk_types::{ActionId, IdFault, Implicit, List, Text, TextFault, TextList, number_up_to};
 use std::alloc::Global;
 
 /// The greatest number of a caller in a scenario.
-pub const MAX_CALLER: u32 = 1048575;
+const MAX_CALLER: u32 = 1048575;
 
 /// A number up to the greatest.
 pub fn number_word(word: &[u8], greatest: u64) -> Result<u64, LineKind>
     ensures value { Gives result (number_in greatest word.now) }
     ensures bound { IfOk result (λ n. n ≤ greatest) }
 {
-    match number(word, greatest) {
+    match number_up_to(word, greatest) {
         Some(n) => Ok(n),
         None => Err(LineKind::Number),
     }
@@ -25,14 +26,21 @@ pub fn number_word(word: &[u8], greatest: u64) -> Result<u64, LineKind>
 
 /// A number of 32 bits, as a pid or a uid.
 pub fn number_32(word: &[u8]) -> Result<u32, LineKind>
-    ensures value { Gives result (number_in (2 ^ 32 - 1) word.now) }
+    ensures value { Gives result (number_32_in word.now) }
 {
     let n = number_word(word, u64::from(u32::MAX))?;
     Ok(n as u32)
 }
 
+/// A number of 64 bits, as a start time.
+pub fn number_64(word: &[u8]) -> Result<u64, LineKind>
+    ensures value { Gives result (number_64_in word.now) }
+{
+    number_word(word, u64::MAX)
+}
+
 /// A number from 1 up to the greatest.
-pub fn positive_word(word: &[u8], greatest: u32) -> Result<u32, LineKind>
+fn positive_word(word: &[u8], greatest: u32) -> Result<u32, LineKind>
     ensures value { Gives result (positive_in greatest word.now) }
 {
     let n = number_word(word, u64::from(greatest))?;
@@ -42,13 +50,38 @@ pub fn positive_word(word: &[u8], greatest: u32) -> Result<u32, LineKind>
     Ok(n as u32)
 }
 
-/// An implicit value, as far as these are built: one whose authorization is not kept.
+/// The number of a connection.
+pub fn caller_word(word: &[u8]) -> Result<u32, LineKind>
+    ensures value { Gives result (caller_in word.now) }
+{
+    positive_word(word, MAX_CALLER)
+}
+
+/// The serial of a message.
+pub fn serial_word(word: &[u8]) -> Result<u32, LineKind>
+    ensures value { Gives result (serial_in word.now) }
+{
+    positive_word(word, u32::MAX)
+}
+
+/// An implicit value.
 pub fn implicit_word(word: &[u8]) -> Result<Implicit, LineKind>
     ensures value { Gives result (implicit_in word.now) }
 {
     match Implicit::read(word) {
-        Some(Implicit::AuthSelfKeep | Implicit::AuthAdminKeep) | None => Err(LineKind::Value),
         Some(value) => Ok(value),
+        None => Err(LineKind::Value),
+    }
+}
+
+/// A text of bytes that are one.
+pub fn known_text(alloc: Global, bytes: &[u8]) -> Result<Text, LineKind>
+    requires { IsText bytes.now }
+    ensures value { Gives result (Ok bytes.now) }
+{
+    match Text::try_from_bytes(alloc, bytes) {
+        Ok(text) => Ok(text),
+        Err(_) => Err(LineKind::NoMemory),
     }
 }
 
@@ -84,42 +117,82 @@ pub fn id_word(alloc: Global, word: &[u8]) -> Result<ActionId, LineKind>
     }
 }
 
-/// The session of a process, as far as it is built: `-` for none.
-pub fn session_word(word: &[u8]) -> Result<Option<Text>, LineKind>
-    ensures value { Gives result (no_session_in word.now) }
+/// `local` or `remote`.
+pub fn local_word(word: &[u8]) -> Result<bool, LineKind>
+    ensures value { Gives result (local_in word.now) }
 {
-    if word == b"-".as_slice() {
-        Ok(None)
+    if word == b"local".as_slice() {
+        Ok(true)
+    } else if word == b"remote".as_slice() {
+        Ok(false)
     } else {
         Err(LineKind::Value)
     }
 }
 
-fn process_of(kind: &[u8], pid: &[u8], start: &[u8]) -> Result<Subject, LineKind>
-    ensures value { Gives result (subject_parts (kind.now ∷ pid.now ∷ start.now ∷ [])) }
+/// `active` or `idle`.
+pub fn active_word(word: &[u8]) -> Result<bool, LineKind>
+    ensures value { Gives result (active_in word.now) }
 {
-    if kind != b"process".as_slice() {
-        return Err(LineKind::Value);
-    }
-    let pid = number_32(pid)?;
-    let start = number_word(start, u64::MAX)?;
-    Ok(Subject::Process { pid, start })
-}
-
-fn subject_of(parts: &[&[u8]]) -> Result<Subject, LineKind>
-    ensures value { Gives result (subject_parts (map (λ part. part.now) parts.now)) }
-{
-    match parts {
-        [kind, pid, start] => process_of(kind, pid, start),
-        _ => Err(LineKind::Value),
+    if word == b"active".as_slice() {
+        Ok(true)
+    } else if word == b"idle".as_slice() {
+        Ok(false)
+    } else {
+        Err(LineKind::Value)
     }
 }
 
-/// The subject of a check, as far as it is built: `process:PID:START`.
-#[tactic(auto, unfolding(crate::specs::Words::subject_in))]
-pub fn subject_word(alloc: Global, word: &[u8]) -> Result<Subject, LineKind>
-    ensures value { Gives result (subject_in word.now) }
+/// The session of a process: its id, or `-` for none.
+pub fn session_word(alloc: Global, word: &[u8]) -> Result<Option<Text>, LineKind>
+    ensures value { Gives result (session_in word.now) }
 {
-    let parts = pieces(alloc, word, b':')?;
-    subject_of(&parts)
+    if word == b"-".as_slice() {
+        return Ok(None);
+    }
+    let id = text_word(alloc, word)?;
+    Ok(Some(id))
+}
+
+fn texts(alloc: Global, items: &[&[u8]]) -> Result<TextList, LineKind>
+    ensures value { Gives result (each_in text_in (map (λ item. item.now) items.now)) }
+{
+    let mut texts = List::new(alloc);
+    for item in items {
+        let text = text_word(alloc, item)?;
+        texts.try_push(text)?;
+    }
+    Ok(texts)
+}
+
+/// Texts with `;` between them.
+#[tactic(auto, unfolding(crate::specs::Words::texts_in))]
+pub fn texts_word(alloc: Global, word: &[u8]) -> Result<TextList, LineKind>
+    ensures value { Gives result (texts_in word.now) }
+{
+    let items = pieces(alloc, word, b';')?;
+    texts(alloc, &items)
+}
+
+fn gids(alloc: Global, items: &[&[u8]]) -> Result<GidList, LineKind>
+    ensures value { Gives result (each_in number_32_in (map (λ item. item.now) items.now)) }
+{
+    let mut gids = List::new(alloc);
+    for item in items {
+        let gid = number_32(item)?;
+        gids.try_push(gid)?;
+    }
+    Ok(gids)
+}
+
+/// Gids with commas between them, or `-` for none.
+#[tactic(auto, unfolding(crate::specs::Words::gids_in))]
+pub fn gids_word(alloc: Global, word: &[u8]) -> Result<GidList, LineKind>
+    ensures value { Gives result (gids_in word.now) }
+{
+    if word == b"-".as_slice() {
+        return Ok(List::new(alloc));
+    }
+    let items = pieces(alloc, word, b',')?;
+    gids(alloc, &items)
 }

@@ -1,5 +1,5 @@
 -- The journal's loads are those of its items.
-use Rattle.std.proofs.Common.{ap, ◌∙◌}
+use Rattle.std.proofs.Common.{ap}
 use Rattle.scenario_run.specs.Scene.{Scene}
 use Rattle.scenario_run.proofs.Loads.{loads_are}
 use Rattle.scenario_run.proofs.stage.Stage.history.Goals as goal

@@ -1,5 +1,5 @@
 -- The newest item has the outputs of the last entry.
-use Rattle.std.proofs.Common.{ap, sym, ◌∙◌}
+use Rattle.std.proofs.Common.{ap, ◌∙◌}
 use Rattle.scenario_run.proofs.Begun.{last_is}
 use Rattle.scenario_run.specs.Scene.{Scene}
 use Rattle.scenario_run.specs.Stages.{last_outputs}

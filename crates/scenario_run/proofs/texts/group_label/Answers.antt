@@ -1,0 +1,4 @@
+use Rattle.scenario_run.proofs.texts.group_label.Goals as goal
+
+pub returns : goal.returns
+returns c = record { value = rw c.as_slice.ensures at c.label.ensures.value }

@@ -1,0 +1,8 @@
+use Rattle.std.proofs.Common.{◌≡◌, map, drop}
+use Rattle.scenario_text.specs.Words.{text_in, each_in}
+use Rattle.scenario_text.proofs.Reading.{onto}
+use Rattle.scenario_text.proofs.words.texts.Given as goal
+
+abbrev pub invariant-loop-item : goal.invariant-loop-item
+invariant-loop-item l =
+    each_in text_in (map (λ item. item.now) l.items) ≡ onto l.texts (each_in text_in (map (λ item. item.now) (drop l.item-index l.items)))

@@ -1,0 +1,402 @@
+// The lines that make an event of a connection: a function for each word that they begin with.
+ghost use Rattle.std.specs.Prelude.{◌≡◌, ◌≤◌, false, [], ◌∷◌, map, length, IfOk};
+ghost use Rattle.pk_types.specs.Text.{IsText};
+ghost use Rattle.scenario_text.specs.Faults.{Gives};
+ghost use Rattle.scenario_text.specs.Runs.{IsRunnable};
+ghost use Rattle.scenario_text.specs.CallerLines.{serial_event, check_event, error_named, peer_line, depart_line, announce_line, check_line, cancel_line, register_line, unregister_line, respond_line, return_line, dismiss_line, fail_line, grants_line, revoke_line, revoke_id_line, caller_line};
+
+use crate::check_options::CheckOptions;
+use crate::fault::LineKind;
+use crate::first_word::CallerWord;
+use crate::step::Step;
+use crate::subjects::{identity_word, subject_word};
+use crate::words::{caller_word, known_text, number_32, number_64, serial_word, text_word};
+use authority_model::{Call, Event};
+use pk_types::List;
+use std::alloc::Global;
+
+/// A call, which wants its reply.
+fn called(caller: u32, serial: u32, call: Call) -> Step
+    ensures step { result ≡ Step.Act caller (Event.Call serial false call) }
+{
+    Step::Act {
+        caller,
+        event: Event::Call {
+            serial,
+            quiet: false,
+            call,
+        },
+    }
+}
+
+fn peer(caller: &[u8], uid: &[u8]) -> Result<Step, LineKind>
+    ensures value { Gives result (peer_line (caller.now ∷ uid.now ∷ [])) }
+    ensures runs { IfOk result IsRunnable }
+{
+    let caller = caller_word(caller)?;
+    let uid = number_32(uid)?;
+    let event = Event::Connect { uid };
+    Ok(Step::Act { caller, event })
+}
+
+/// `peer N UID`.
+fn peer_words(args: &[&[u8]]) -> Result<Step, LineKind>
+    ensures value { Gives result (peer_line (map (λ word. word.now) args.now)) }
+    ensures runs { IfOk result IsRunnable }
+{
+    match args {
+        [caller, uid] => peer(caller, uid),
+        _ => Err(LineKind::Count),
+    }
+}
+
+/// `depart N`.
+fn depart_words(args: &[&[u8]]) -> Result<Step, LineKind>
+    ensures value { Gives result (depart_line (map (λ word. word.now) args.now)) }
+    ensures runs { IfOk result IsRunnable }
+{
+    match args {
+        [caller] => {
+            let caller = caller_word(caller)?;
+            let event = Event::Depart;
+            Ok(Step::Act { caller, event })
+        }
+        _ => Err(LineKind::Count),
+    }
+}
+
+fn announce(caller: &[u8], serial: &[u8], pid: &[u8], start: &[u8]) -> Result<Step, LineKind>
+    ensures value { Gives result (announce_line (caller.now ∷ serial.now ∷ pid.now ∷ start.now ∷ [])) }
+    ensures runs { IfOk result IsRunnable }
+{
+    let caller = caller_word(caller)?;
+    let serial = serial_word(serial)?;
+    let pid = number_32(pid)?;
+    let start = number_64(start)?;
+    Ok(called(caller, serial, Call::Announce { pid, start }))
+}
+
+/// `announce N S PID START`.
+fn announce_words(args: &[&[u8]]) -> Result<Step, LineKind>
+    ensures value { Gives result (announce_line (map (λ word. word.now) args.now)) }
+    ensures runs { IfOk result IsRunnable }
+{
+    match args {
+        [caller, serial, pid, start] => announce(caller, serial, pid, start),
+        _ => Err(LineKind::Count),
+    }
+}
+
+#[tactic(auto, unfolding(crate::specs::CallerLines::check_event))]
+fn check(
+    alloc: Global,
+    caller: &[u8],
+    serial: &[u8],
+    subject: &[u8],
+    action: &[u8],
+    more: &[&[u8]],
+) -> Result<Step, LineKind>
+    ensures value { Gives result (check_event caller.now serial.now subject.now action.now (map (λ word. word.now) more.now)) }
+    ensures runs { IfOk result IsRunnable }
+{
+    let caller = caller_word(caller)?;
+    let serial = serial_word(serial)?;
+    let subject = subject_word(alloc, subject)?;
+    let action = text_word(alloc, action)?;
+    let options = CheckOptions::read(alloc, more)?;
+    Ok(called(
+        caller,
+        serial,
+        Call::Check {
+            subject,
+            action,
+            details: List::new(alloc),
+            flags: options.flags,
+            cancel: options.cancel,
+        },
+    ))
+}
+
+/// `check N S SUBJECT ACTION [ask] [cancel=ID]`.
+fn check_words(alloc: Global, args: &[&[u8]]) -> Result<Step, LineKind>
+    ensures value { Gives result (check_line (map (λ word. word.now) args.now)) }
+    ensures runs { IfOk result IsRunnable }
+{
+    match args {
+        [caller, serial, subject, action, more @ ..] if more.len() <= 2 => {
+            check(alloc, caller, serial, subject, action, more)
+        }
+        _ => Err(LineKind::Count),
+    }
+}
+
+fn cancel(alloc: Global, caller: &[u8], serial: &[u8], id: &[u8]) -> Result<Step, LineKind>
+    ensures value { Gives result (cancel_line (caller.now ∷ serial.now ∷ id.now ∷ [])) }
+    ensures runs { IfOk result IsRunnable }
+{
+    let caller = caller_word(caller)?;
+    let serial = serial_word(serial)?;
+    let cancel = text_word(alloc, id)?;
+    Ok(called(caller, serial, Call::Cancel { cancel }))
+}
+
+/// `cancel N S ID`.
+fn cancel_words(alloc: Global, args: &[&[u8]]) -> Result<Step, LineKind>
+    ensures value { Gives result (cancel_line (map (λ word. word.now) args.now)) }
+    ensures runs { IfOk result IsRunnable }
+{
+    match args {
+        [caller, serial, id] => cancel(alloc, caller, serial, id),
+        _ => Err(LineKind::Count),
+    }
+}
+
+fn register(
+    alloc: Global,
+    caller: &[u8],
+    serial: &[u8],
+    subject: &[u8],
+    path: &[u8],
+) -> Result<Step, LineKind>
+    ensures value { Gives result (register_line (caller.now ∷ serial.now ∷ subject.now ∷ path.now ∷ [])) }
+    ensures runs { IfOk result IsRunnable }
+{
+    let caller = caller_word(caller)?;
+    let serial = serial_word(serial)?;
+    let subject = subject_word(alloc, subject)?;
+    let path = text_word(alloc, path)?;
+    let locale = known_text(alloc, b"C".as_slice())?;
+    Ok(called(
+        caller,
+        serial,
+        Call::Register {
+            subject,
+            locale,
+            path,
+        },
+    ))
+}
+
+/// `register N S SUBJECT PATH`.
+fn register_words(alloc: Global, args: &[&[u8]]) -> Result<Step, LineKind>
+    ensures value { Gives result (register_line (map (λ word. word.now) args.now)) }
+    ensures runs { IfOk result IsRunnable }
+{
+    match args {
+        [caller, serial, subject, path] => register(alloc, caller, serial, subject, path),
+        _ => Err(LineKind::Count),
+    }
+}
+
+fn unregister(
+    alloc: Global,
+    caller: &[u8],
+    serial: &[u8],
+    subject: &[u8],
+    path: &[u8],
+) -> Result<Step, LineKind>
+    ensures value { Gives result (unregister_line (caller.now ∷ serial.now ∷ subject.now ∷ path.now ∷ [])) }
+    ensures runs { IfOk result IsRunnable }
+{
+    let caller = caller_word(caller)?;
+    let serial = serial_word(serial)?;
+    let subject = subject_word(alloc, subject)?;
+    let path = text_word(alloc, path)?;
+    Ok(called(caller, serial, Call::Unregister { subject, path }))
+}
+
+/// `unregister N S SUBJECT PATH`.
+fn unregister_words(alloc: Global, args: &[&[u8]]) -> Result<Step, LineKind>
+    ensures value { Gives result (unregister_line (map (λ word. word.now) args.now)) }
+    ensures runs { IfOk result IsRunnable }
+{
+    match args {
+        [caller, serial, subject, path] => unregister(alloc, caller, serial, subject, path),
+        _ => Err(LineKind::Count),
+    }
+}
+
+fn respond(
+    alloc: Global,
+    caller: &[u8],
+    serial: &[u8],
+    cookie: &[u8],
+    identity: &[u8],
+) -> Result<Step, LineKind>
+    ensures value { Gives result (respond_line (caller.now ∷ serial.now ∷ cookie.now ∷ identity.now ∷ [])) }
+    ensures runs { IfOk result IsRunnable }
+{
+    let caller = caller_word(caller)?;
+    let serial = serial_word(serial)?;
+    let identity = identity_word(alloc, identity)?;
+    let cookie = text_word(alloc, cookie)?;
+    Ok(called(caller, serial, Call::Respond { cookie, identity }))
+}
+
+/// `respond N S COOKIE user:UID`.
+fn respond_words(alloc: Global, args: &[&[u8]]) -> Result<Step, LineKind>
+    ensures value { Gives result (respond_line (map (λ word. word.now) args.now)) }
+    ensures runs { IfOk result IsRunnable }
+{
+    match args {
+        [caller, serial, cookie, identity] => respond(alloc, caller, serial, cookie, identity),
+        _ => Err(LineKind::Count),
+    }
+}
+
+fn returned(caller: &[u8], serial: &[u8]) -> Result<Step, LineKind>
+    ensures value { Gives result (return_line (caller.now ∷ serial.now ∷ [])) }
+    ensures runs { IfOk result IsRunnable }
+{
+    let caller = caller_word(caller)?;
+    let serial = serial_word(serial)?;
+    let event = Event::Returned { serial };
+    Ok(Step::Act { caller, event })
+}
+
+/// `return N S`.
+fn returned_words(args: &[&[u8]]) -> Result<Step, LineKind>
+    ensures value { Gives result (return_line (map (λ word. word.now) args.now)) }
+    ensures runs { IfOk result IsRunnable }
+{
+    match args {
+        [caller, serial] => returned(caller, serial),
+        _ => Err(LineKind::Count),
+    }
+}
+
+fn agent_error(alloc: Global, caller: &[u8], serial: &[u8], name: &[u8]) -> Result<Step, LineKind>
+    requires { IsText name.now }
+    ensures value { Gives result (serial_event caller.now serial.now (error_named name.now)) }
+    ensures runs { IfOk result IsRunnable }
+{
+    let caller = caller_word(caller)?;
+    let serial = serial_word(serial)?;
+    let name = known_text(alloc, name)?;
+    let event = Event::AgentError { serial, name };
+    Ok(Step::Act { caller, event })
+}
+
+fn dismiss(alloc: Global, caller: &[u8], serial: &[u8]) -> Result<Step, LineKind>
+    ensures value { Gives result (dismiss_line (caller.now ∷ serial.now ∷ [])) }
+    ensures runs { IfOk result IsRunnable }
+{
+    let name = b"org.freedesktop.PolicyKit1.Error.Cancelled";
+    agent_error(alloc, caller, serial, name.as_slice())
+}
+
+/// `dismiss N S`.
+fn dismiss_words(alloc: Global, args: &[&[u8]]) -> Result<Step, LineKind>
+    ensures value { Gives result (dismiss_line (map (λ word. word.now) args.now)) }
+    ensures runs { IfOk result IsRunnable }
+{
+    match args {
+        [caller, serial] => dismiss(alloc, caller, serial),
+        _ => Err(LineKind::Count),
+    }
+}
+
+fn fail(alloc: Global, caller: &[u8], serial: &[u8]) -> Result<Step, LineKind>
+    ensures value { Gives result (fail_line (caller.now ∷ serial.now ∷ [])) }
+    ensures runs { IfOk result IsRunnable }
+{
+    let name = b"org.freedesktop.PolicyKit1.Error.Failed";
+    agent_error(alloc, caller, serial, name.as_slice())
+}
+
+/// `fail N S`.
+fn fail_words(alloc: Global, args: &[&[u8]]) -> Result<Step, LineKind>
+    ensures value { Gives result (fail_line (map (λ word. word.now) args.now)) }
+    ensures runs { IfOk result IsRunnable }
+{
+    match args {
+        [caller, serial] => fail(alloc, caller, serial),
+        _ => Err(LineKind::Count),
+    }
+}
+
+fn grants(alloc: Global, caller: &[u8], serial: &[u8], subject: &[u8]) -> Result<Step, LineKind>
+    ensures value { Gives result (grants_line (caller.now ∷ serial.now ∷ subject.now ∷ [])) }
+    ensures runs { IfOk result IsRunnable }
+{
+    let caller = caller_word(caller)?;
+    let serial = serial_word(serial)?;
+    let subject = subject_word(alloc, subject)?;
+    Ok(called(caller, serial, Call::EnumerateGrants { subject }))
+}
+
+/// `grants N S SUBJECT`.
+fn grants_words(alloc: Global, args: &[&[u8]]) -> Result<Step, LineKind>
+    ensures value { Gives result (grants_line (map (λ word. word.now) args.now)) }
+    ensures runs { IfOk result IsRunnable }
+{
+    match args {
+        [caller, serial, subject] => grants(alloc, caller, serial, subject),
+        _ => Err(LineKind::Count),
+    }
+}
+
+fn revoke(alloc: Global, caller: &[u8], serial: &[u8], subject: &[u8]) -> Result<Step, LineKind>
+    ensures value { Gives result (revoke_line (caller.now ∷ serial.now ∷ subject.now ∷ [])) }
+    ensures runs { IfOk result IsRunnable }
+{
+    let caller = caller_word(caller)?;
+    let serial = serial_word(serial)?;
+    let subject = subject_word(alloc, subject)?;
+    Ok(called(caller, serial, Call::RevokeAll { subject }))
+}
+
+/// `revoke N S SUBJECT`.
+fn revoke_words(alloc: Global, args: &[&[u8]]) -> Result<Step, LineKind>
+    ensures value { Gives result (revoke_line (map (λ word. word.now) args.now)) }
+    ensures runs { IfOk result IsRunnable }
+{
+    match args {
+        [caller, serial, subject] => revoke(alloc, caller, serial, subject),
+        _ => Err(LineKind::Count),
+    }
+}
+
+fn revoke_id(alloc: Global, caller: &[u8], serial: &[u8], id: &[u8]) -> Result<Step, LineKind>
+    ensures value { Gives result (revoke_id_line (caller.now ∷ serial.now ∷ id.now ∷ [])) }
+    ensures runs { IfOk result IsRunnable }
+{
+    let caller = caller_word(caller)?;
+    let serial = serial_word(serial)?;
+    let id = text_word(alloc, id)?;
+    Ok(called(caller, serial, Call::RevokeOne { id }))
+}
+
+/// `revoke-id N S ID`.
+fn revoke_id_words(alloc: Global, args: &[&[u8]]) -> Result<Step, LineKind>
+    ensures value { Gives result (revoke_id_line (map (λ word. word.now) args.now)) }
+    ensures runs { IfOk result IsRunnable }
+{
+    match args {
+        [caller, serial, id] => revoke_id(alloc, caller, serial, id),
+        _ => Err(LineKind::Count),
+    }
+}
+
+/// A line that begins with this word, by the words behind it.
+pub fn caller_step(alloc: Global, word: CallerWord, args: &[&[u8]]) -> Result<Step, LineKind>
+    ensures value { Gives result (caller_line word (map (λ word. word.now) args.now)) }
+    ensures runs { IfOk result IsRunnable }
+{
+    match word {
+        CallerWord::Peer => peer_words(args),
+        CallerWord::Depart => depart_words(args),
+        CallerWord::Announce => announce_words(args),
+        CallerWord::Check => check_words(alloc, args),
+        CallerWord::Cancel => cancel_words(alloc, args),
+        CallerWord::Register => register_words(alloc, args),
+        CallerWord::Unregister => unregister_words(alloc, args),
+        CallerWord::Respond => respond_words(alloc, args),
+        CallerWord::Return => returned_words(args),
+        CallerWord::Dismiss => dismiss_words(alloc, args),
+        CallerWord::Fail => fail_words(alloc, args),
+        CallerWord::Grants => grants_words(alloc, args),
+        CallerWord::Revoke => revoke_words(alloc, args),
+        CallerWord::RevokeId => revoke_id_words(alloc, args),
+    }
+}
