@@ -13,3 +13,4 @@ pub mod Trees
 pub mod Form
 pub mod Streams
 pub mod Written
+pub mod Values

@@ -33,47 +33,49 @@ pub enum Class {
     Other,
 }
 
-/// The class of the type that begins with a letter.
-pub fn class_for(letter: u8) -> Class
-    ensures class { result ≡ class_of letter }
-{
-    match letter {
-        b'y' => Class::Byte,
-        b'n' | b'q' => Class::Half,
-        b'b' => Class::Boolean,
-        b'i' | b'u' | b'h' => Class::Word,
-        b'x' | b't' | b'd' => Class::Long,
-        b's' => Class::Text,
-        b'o' => Class::Path,
-        b'g' => Class::Signature,
-        b'a' => Class::Array,
-        b'(' => Class::Struct,
-        b'{' => Class::Entry,
-        b'v' => Class::Variant,
-        _ => Class::Other,
+impl Class {
+    /// The class of the type that begins with a letter.
+    pub fn of(letter: u8) -> Class
+        ensures class { result ≡ class_of letter }
+    {
+        match letter {
+            b'y' => Class::Byte,
+            b'n' | b'q' => Class::Half,
+            b'b' => Class::Boolean,
+            b'i' | b'u' | b'h' => Class::Word,
+            b'x' | b't' | b'd' => Class::Long,
+            b's' => Class::Text,
+            b'o' => Class::Path,
+            b'g' => Class::Signature,
+            b'a' => Class::Array,
+            b'(' => Class::Struct,
+            b'{' => Class::Entry,
+            b'v' => Class::Variant,
+            _ => Class::Other,
+        }
     }
-}
 
-/// Whether the key of a dict entry may have such a type.
-pub fn basic(class: Class) -> bool
-    ensures basic { result ≡ is_basic class }
-{
-    !matches!(
-        class,
-        Class::Array | Class::Struct | Class::Entry | Class::Variant | Class::Other
-    )
-}
+    /// Whether the key of a dict entry may have such a type.
+    pub fn is_basic(self) -> bool
+        ensures basic { result ≡ is_basic self }
+    {
+        !matches!(
+            self,
+            Class::Array | Class::Struct | Class::Entry | Class::Variant | Class::Other
+        )
+    }
 
-/// The alignment of the values of a class, in bytes.
-pub fn align(class: Class) -> usize
-    ensures exact { result ≡ align_of class }
-    ensures low { 0 < result }
-    ensures high { result ≤ 8 }
-{
-    match class {
-        Class::Byte | Class::Signature | Class::Variant | Class::Other => 1,
-        Class::Half => 2,
-        Class::Boolean | Class::Word | Class::Text | Class::Path | Class::Array => 4,
-        Class::Long | Class::Struct | Class::Entry => 8,
+    /// The alignment of the values of a class, in bytes.
+    pub fn align(self) -> usize
+        ensures exact { result ≡ align_of self }
+        ensures low { 0 < result }
+        ensures high { result ≤ 8 }
+    {
+        match self {
+            Class::Byte | Class::Signature | Class::Variant | Class::Other => 1,
+            Class::Half => 2,
+            Class::Boolean | Class::Word | Class::Text | Class::Path | Class::Array => 4,
+            Class::Long | Class::Struct | Class::Entry => 8,
+        }
     }
 }

@@ -5,7 +5,11 @@ ghost use Rattle.dbus_values.specs.Parts.{spot};
 ghost use Rattle.dbus_values.specs.Header.{header, no_fields, has, put_text, put_number, type_code, number_field, text_field, known_field, passed_field, field_at, fields_at, lacks};
 
 use crate::basics::{byte_at, pad, u32_at};
-use crate::class::{align, class_for};
+use crate::class::Class;
+use crate::codes::{
+    DESTINATION, ERROR, ERROR_NAME, INTERFACE, MEMBER, METHOD_CALL, METHOD_RETURN, PATH,
+    REPLY_SERIAL, SENDER, SIGNAL, SIGNATURE, UNIX_FDS,
+};
 use crate::cursor::Cursor;
 use crate::fault::{Fault, FaultKind};
 use crate::fields::Fields;
@@ -18,15 +22,15 @@ impl<'a> Fields<'a> {
         ensures exact { result ≡ has (header self.now) code }
     {
         match code {
-            1 => self.path.is_some(),
-            2 => self.interface.is_some(),
-            3 => self.member.is_some(),
-            4 => self.error_name.is_some(),
-            5 => self.reply_serial.is_some(),
-            6 => self.destination,
-            7 => self.sender,
-            8 => self.signature.is_some(),
-            9 => self.unix_fds,
+            PATH => self.path.is_some(),
+            INTERFACE => self.interface.is_some(),
+            MEMBER => self.member.is_some(),
+            ERROR_NAME => self.error_name.is_some(),
+            REPLY_SERIAL => self.reply_serial.is_some(),
+            DESTINATION => self.destination,
+            SENDER => self.sender,
+            SIGNATURE => self.signature.is_some(),
+            UNIX_FDS => self.unix_fds,
             _ => false,
         }
     }
@@ -37,13 +41,13 @@ impl<'a> Fields<'a> {
     {
         let mut fields = self;
         match code {
-            1 => fields.path = Some(text),
-            2 => fields.interface = Some(text),
-            3 => fields.member = Some(text),
-            4 => fields.error_name = Some(text),
-            6 => fields.destination = true,
-            7 => fields.sender = true,
-            8 => fields.signature = Some(text),
+            PATH => fields.path = Some(text),
+            INTERFACE => fields.interface = Some(text),
+            MEMBER => fields.member = Some(text),
+            ERROR_NAME => fields.error_name = Some(text),
+            DESTINATION => fields.destination = true,
+            SENDER => fields.sender = true,
+            SIGNATURE => fields.signature = Some(text),
             _ => {}
         }
         fields
@@ -55,8 +59,8 @@ impl<'a> Fields<'a> {
     {
         let mut fields = self;
         match code {
-            5 => fields.reply_serial = Some(number),
-            9 => fields.unix_fds = true,
+            REPLY_SERIAL => fields.reply_serial = Some(number),
+            UNIX_FDS => fields.unix_fds = true,
             _ => {}
         }
         fields
@@ -67,10 +71,10 @@ impl<'a> Fields<'a> {
         ensures exact { result ≡ lacks kind (header self.now) }
     {
         match kind {
-            1 => !self.path.is_some() || !self.member.is_some(),
-            2 => !self.reply_serial.is_some(),
-            3 => !self.error_name.is_some() || !self.reply_serial.is_some(),
-            4 => !self.path.is_some() || !self.interface.is_some() || !self.member.is_some(),
+            METHOD_CALL => self.path.is_none() || self.member.is_none(),
+            METHOD_RETURN => self.reply_serial.is_none(),
+            ERROR => self.error_name.is_none() || self.reply_serial.is_none(),
+            SIGNAL => self.path.is_none() || self.interface.is_none() || self.member.is_none(),
             _ => false,
         }
     }
@@ -81,9 +85,9 @@ fn type_code(code: u8) -> u8
     ensures exact { result ≡ type_code code }
 {
     match code {
-        1 => b'o',
-        5 | 9 => b'u',
-        8 => b'g',
+        PATH => b'o',
+        REPLY_SERIAL | UNIX_FDS => b'u',
+        SIGNATURE => b'g',
         _ => b's',
     }
 }
@@ -101,7 +105,7 @@ fn number_field<'a>(
 {
     let here = pad(4, from)?;
     let (number, after) = u32_at(big, here)?;
-    if code == 5 && number == 0 {
+    if code == REPLY_SERIAL && number == 0 {
         return Err(Fault::new(FaultKind::Fields, start));
     }
     Ok((fields.with_number(code, number), after))
@@ -117,8 +121,8 @@ fn text_field<'a>(
 ) -> Result<(Fields<'a>, Cursor<'a>), Fault>
     ensures exact { Gives (λ x. (header x.0, spot x.1)) result (text_field big code (header fields.entry) from.entry.at from.entry.rest.now) }
 {
-    let class = class_for(type_code(code));
-    let here = pad(align(class), from)?;
+    let class = Class::of(type_code(code));
+    let here = pad(class.align(), from)?;
     let (text, after) = string_at(class, big, here)?;
     Ok((fields.with_text(code, text), after))
 }
@@ -168,7 +172,7 @@ fn field_at<'a>(
     if code == 0 || fields.has(code) {
         return Err(Fault::new(FaultKind::Fields, here.at));
     }
-    if code < 10 {
+    if code <= UNIX_FDS {
         return known_field(big, here.at, code, fields, rest);
     }
     let after = passed_field(big, rest)?;
@@ -192,7 +196,7 @@ pub fn fields_at<'a>(big: bool, from: Cursor<'a>) -> Result<Fields<'a>, Fault>
         unix_fds: false,
     };
     let mut here = from;
-    for i in 0..from.rest.len() {
+    for _i in 0..from.rest.len() {
         if here.rest.is_empty() {
             return Ok(fields);
         }

@@ -8,6 +8,7 @@
 mod basics;
 mod bodies;
 mod class;
+mod codes;
 mod cursor;
 mod fault;
 mod fields;

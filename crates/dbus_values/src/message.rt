@@ -43,7 +43,7 @@ fn body_at<'a>(big: bool, signature: &'a [u8], from: Cursor<'a>) -> Result<usize
     ensures exact { Gives (λ n. n) result (body_at big signature.now from.entry.at from.entry.rest.now) }
 {
     let (parts, after) = values_at(64, big, signature, from)?;
-    if after.rest.len() == 0 {
+    if after.rest.is_empty() {
         Ok(parts)
     } else {
         Err(Fault::new(FaultKind::Length, after.at))

@@ -5,7 +5,7 @@
 /// `kind` is the type code: `(` for a structure, `{` for a dict entry. A value of a basic type is
 /// one part. A container begins with `Enter` and ends with `Leave`. A variant is its signature,
 /// with the parts of its value behind it.
-#[derive(Clone, Copy, Debug)]
+#[derive(Clone, Copy, Debug, PartialEq)]
 pub enum Part<'a> {
     /// A number, by its bytes as an unsigned one; a double too.
     Number { kind: u8, value: u64 },

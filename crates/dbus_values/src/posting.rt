@@ -6,6 +6,7 @@ ghost use Rattle.dbus_values.specs.Next.{Whole, next_of};
 ghost use Rattle.dbus_values.specs.Form.{fields_bytes, message_bytes, IsMessage, WireForm, shown_of};
 ghost use Rattle.dbus_values.specs.Written.{list_trees, AllForm, text_field, number_field, signature_field, fields_out, message_out};
 
+use crate::codes::{ERROR_NAME, INTERFACE, MEMBER, PATH, REPLY_SERIAL, SIGNATURE};
 use crate::value::ValueList;
 use crate::wire_out::WireOut;
 use crate::write::{
@@ -45,7 +46,7 @@ fn put_number_field(out: &mut Vec<u8>, number: Option<u32>) -> Result<(), AllocE
         None => Ok(()),
         Some(number) => {
             pad_to(out, 8)?;
-            put_byte(out, 5)?;
+            put_byte(out, REPLY_SERIAL)?;
             put_signature(out, b"u")?;
             pad_to(out, 4)?;
             put_u32(out, number)
@@ -62,7 +63,7 @@ fn put_signature_field(out: &mut Vec<u8>, signature: &[u8]) -> Result<(), AllocE
         return Ok(());
     }
     pad_to(out, 8)?;
-    put_byte(out, 8)?;
+    put_byte(out, SIGNATURE)?;
     put_signature(out, b"g")?;
     put_signature(out, signature)
 }
@@ -74,10 +75,10 @@ fn put_fields(out: &mut Vec<u8>, message: &WireOut, signature: &[u8]) -> Result<
     requires short { length out.old.items + length (fields_bytes false (length out.old.items) (fields_out message.now)) ≤ 16777216 }
     ensures exact { OnOk result (out.new.items ≡ out.old.items ++ fields_bytes false (length out.old.items) (fields_out message.now)) }
 {
-    put_text_field(out, 1, b'o', &message.fields.path)?;
-    put_text_field(out, 2, b's', &message.fields.interface)?;
-    put_text_field(out, 3, b's', &message.fields.member)?;
-    put_text_field(out, 4, b's', &message.fields.error_name)?;
+    put_text_field(out, PATH, b'o', &message.fields.path)?;
+    put_text_field(out, INTERFACE, b's', &message.fields.interface)?;
+    put_text_field(out, MEMBER, b's', &message.fields.member)?;
+    put_text_field(out, ERROR_NAME, b's', &message.fields.error_name)?;
     put_number_field(out, message.fields.reply_serial)?;
     put_signature_field(out, signature)
 }

@@ -3,7 +3,7 @@ ghost use Rattle.std.specs.Prelude.{◌≡◌, ◌<◌, ◌≤◌, length};
 ghost use Rattle.std.specs.Option.{option_map};
 ghost use Rattle.dbus_values.specs.Signatures.{behind, members_end, item_end, entry_end, type_end, after_type, after_item, are_types, is_signature, item_align};
 
-use crate::class::{Class, align, basic, class_for};
+use crate::class::Class;
 use crate::cursor::behind_first;
 
 /// What follows this letter.
@@ -23,7 +23,7 @@ fn members_end(level: u8, arrays: u8, structs: u8, sig: &[u8]) -> Option<&[u8]>
     ensures exact { option_map (λ rest. rest.now) result ≡ members_end (type_end level arrays structs) (length sig.now) sig.now }
 {
     let mut here = sig;
-    for i in 0..sig.len() {
+    for _i in 0..sig.len() {
         match type_end(level, arrays, structs, here) {
             None => return None,
             Some(rest) => {
@@ -48,7 +48,7 @@ fn entry_end(level: u8, arrays: u8, structs: u8, sig: &[u8]) -> Option<&[u8]>
     match sig {
         [] => None,
         [key, value @ ..] => {
-            if basic(class_for(*key)) {
+            if Class::of(*key).is_basic() {
                 match type_end(level, arrays, structs, value) {
                     None => None,
                     Some(rest) => behind(b'}', rest),
@@ -85,7 +85,7 @@ fn type_end(level: u8, arrays: u8, structs: u8, sig: &[u8]) -> Option<&[u8]>
         return None;
     }
     let inner = behind_first(sig);
-    match class_for(sig[0]) {
+    match Class::of(sig[0]) {
         Class::Array => {
             if arrays == 0 {
                 None
@@ -125,7 +125,7 @@ fn are_types(sig: &[u8]) -> bool
     ensures exact { result ≡ are_types (length sig.now) sig.now }
 {
     let mut here = sig;
-    for i in 0..sig.len() {
+    for _i in 0..sig.len() {
         if here.is_empty() {
             return true;
         }
@@ -152,6 +152,6 @@ pub fn item_align(sig: &[u8]) -> usize
 {
     match sig {
         [] => 1,
-        [c, ..] => align(class_for(*c)),
+        [c, ..] => Class::of(*c).align(),
     }
 }

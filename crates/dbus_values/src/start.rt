@@ -6,6 +6,7 @@ ghost use Rattle.dbus_values.specs.Starts.{start};
 ghost use Rattle.dbus_values.specs.Basics.{gap};
 
 use crate::basics::gap;
+use crate::codes::{MAX_BODY, MAX_MESSAGE};
 use crate::fault::{FaultKind, Stop};
 
 /// What the first 16 bytes say: the byte order, the message type, the flags, the length of the
@@ -50,7 +51,7 @@ fn u32_of(big: bool, bytes: &[u8], at: usize) -> u32
 fn order_of(bytes: &[u8]) -> Result<bool, Stop>
     ensures exact { Gives (λ x. x) result (order_of bytes.now) }
 {
-    if bytes.len() < 1 {
+    if bytes.is_empty() {
         return Err(Stop::Partial);
     }
     match bytes[0] {
@@ -99,7 +100,7 @@ fn body_of(big: bool, bytes: &[u8]) -> Result<u32, Stop>
         return Err(Stop::Partial);
     }
     let body = u32_of(big, bytes, 4);
-    if 16777200 < body {
+    if MAX_BODY < body {
         return Err(Stop::bad(FaultKind::Length, 4));
     }
     Ok(body)
@@ -131,7 +132,7 @@ fn fields_of(big: bool, body: u32, bytes: &[u8]) -> Result<u32, Stop>
     }
     let fields = u32_of(big, bytes, 12);
     let length = fields as usize;
-    if 16777216 < 16 + (length + gap(8, length)) + body as usize {
+    if MAX_MESSAGE < 16 + (length + gap(8, length)) + body as usize {
         return Err(Stop::bad(FaultKind::Length, 12));
     }
     Ok(fields)

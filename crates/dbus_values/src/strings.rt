@@ -4,6 +4,7 @@ ghost use Rattle.std.specs.List.{list_any};
 ghost use Rattle.std.specs.Str.{is_utf8};
 ghost use Rattle.dbus_values.specs.Reading.{Gives};
 ghost use Rattle.dbus_values.specs.Parts.{spot, piece};
+ghost use Rattle.dbus_values.specs.Parts as part;
 ghost use Rattle.dbus_values.specs.Basics.{is_text, ended, text_at, signature_at, is_path_byte, path_goes_on, is_path, string_at, leaf_at};
 
 use crate::basics::{byte_at, u16_at, u32_at, u64_at};
@@ -147,6 +148,13 @@ pub fn string_at(class: Class, big: bool, from: Cursor) -> Result<(&[u8], Cursor
     }
 }
 
+/// A number as a part.
+fn number_part<'a>(kind: u8, value: u64) -> Part<'a>
+    ensures { piece result ≡ part.Number kind value }
+{
+    Part::Number { kind, value }
+}
+
 /// A value of a basic type, from its first byte.
 #[tactic(auto, unfolding(crate::specs::Basics::leaf_at))]
 pub fn leaf_at(class: Class, big: bool, kind: u8, from: Cursor) -> Result<(Part, Cursor), Fault>
@@ -155,31 +163,27 @@ pub fn leaf_at(class: Class, big: bool, kind: u8, from: Cursor) -> Result<(Part,
     match class {
         Class::Byte => {
             let (n, rest) = byte_at(from)?;
-            let value = n as u64;
-            Ok((Part::Number { kind, value }, rest))
+            Ok((number_part(kind, u64::from(n)), rest))
         }
         Class::Half => {
             let (n, rest) = u16_at(big, from)?;
-            let value = n as u64;
-            Ok((Part::Number { kind, value }, rest))
+            Ok((number_part(kind, u64::from(n)), rest))
         }
         Class::Boolean => {
             let (n, rest) = u32_at(big, from)?;
-            let value = n as u64;
             if n < 2 {
-                Ok((Part::Number { kind, value }, rest))
+                Ok((number_part(kind, u64::from(n)), rest))
             } else {
                 Err(Fault::new(FaultKind::Bool, from.at))
             }
         }
         Class::Word => {
             let (n, rest) = u32_at(big, from)?;
-            let value = n as u64;
-            Ok((Part::Number { kind, value }, rest))
+            Ok((number_part(kind, u64::from(n)), rest))
         }
         Class::Long => {
             let (value, rest) = u64_at(big, from)?;
-            Ok((Part::Number { kind, value }, rest))
+            Ok((number_part(kind, value), rest))
         }
         Class::Text
         | Class::Path

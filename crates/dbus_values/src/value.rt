@@ -1,5 +1,5 @@
 // Values and messages to be written.
-ghost use Rattle.std.specs.Prelude.{◌≡◌, [], ◌∷◌, ◌++◌, length, OnOk, OnErr, slice_get};
+ghost use Rattle.std.specs.Prelude.{◌≡◌, ◌↔◌, [], ◌∷◌, ◌++◌, length, IsTrue, OnOk, OnErr, slice_get};
 ghost use Rattle.std.specs.Option.{option_copied};
 
 use pk_types::{NoMemory, Text};
@@ -35,9 +35,11 @@ pub enum Value {
 }
 
 impl ValueList {
+    ghost use Rattle.dbus_values.specs.Values.{values_of};
+
     /// The empty list. It takes no memory.
     pub fn new(alloc: Global) -> Self
-        ensures empty { result.items.items ≡ [] }
+        ensures empty { values_of result ≡ [] }
     {
         ValueList {
             items: Vec::new(alloc),
@@ -46,22 +48,29 @@ impl ValueList {
 
     /// How many values the list has.
     pub fn len(&self) -> usize
-        ensures length { result ≡ length self.now.items.items }
+        ensures length { result ≡ length (values_of self.now) }
     {
         self.items.len()
     }
 
+    /// Whether the list has no value.
+    pub fn is_empty(&self) -> bool
+        ensures empty { IsTrue result ↔ (values_of self.now ≡ []) }
+    {
+        self.items.is_empty()
+    }
+
     /// The value at a place counted from 0, and `None` exactly past the end.
     pub fn get(&self, i: usize) -> Option<&Value>
-        ensures item { option_copied result ≡ slice_get self.now.items.items i }
+        ensures item { option_copied result ≡ slice_get (values_of self.now) i }
     {
         self.items.get(i)
     }
 
     /// Puts a value at the end. A refusal leaves the list as it was.
     pub fn try_push(&mut self, item: Value) -> Result<(), NoMemory>
-        ensures ok { OnOk result (self.new.items.items ≡ self.old.items.items ++ item ∷ []) }
-        ensures err { OnErr result (self.new.items.items ≡ self.old.items.items) }
+        ensures ok { OnOk result (values_of self.new ≡ values_of self.old ++ item ∷ []) }
+        ensures err { OnErr result (values_of self.new ≡ values_of self.old) }
     {
         self.items.push(item)?;
         Ok(())

@@ -9,7 +9,7 @@ ghost use Rattle.dbus_values.specs.Walk.{State, state, rest_of, resume, resumed,
 ghost use Rattle.dbus_values.specs.Opened.{innermost, outer};
 
 use crate::basics::{gap, pad, u32_at};
-use crate::class::{Class, align, basic, class_for};
+use crate::class::Class;
 use crate::cursor::{Cursor, behind_first};
 use crate::fault::{Fault, FaultKind};
 use crate::frames::{Frame, Frames};
@@ -56,7 +56,7 @@ fn resume<'a>(frames: &mut Frames<'a>, types: &'a [u8], at: usize) -> Result<&'a
         (λ e. resume frames.old types.now at ≡ Err e) }
 {
     let mut here = types;
-    for i in 0..frames.len() {
+    for _i in 0..frames.len() {
         match frames.top() {
             None => return Ok(here),
             Some(frame) => match frame {
@@ -180,7 +180,7 @@ fn enter_variant<'a>(
 {
     let (signature, rest) = signature_at(from)?;
     let end = rest_of(signature, from.at)?;
-    if end.len() == 0 {
+    if end.is_empty() {
         frames.push(Frame::Inner { types: sig });
         Ok((Part::Variant { signature }, signature, rest))
     } else {
@@ -259,8 +259,8 @@ fn enter<'a>(
     if sig.is_empty() {
         return Err(Fault::new(FaultKind::Text, from.at));
     }
-    let class = class_for(sig[0]);
-    let start = pad(align(class), from)?;
+    let class = Class::of(sig[0]);
+    let start = pad(class.align(), from)?;
     enter_by(class, limit, big, frames, sig[0], behind_first(sig), start)
 }
 
@@ -354,7 +354,7 @@ fn in_key<'a>(
     if sig.is_empty() {
         return Err(Fault::new(FaultKind::Text, from.at));
     }
-    if basic(class_for(sig[0])) {
+    if Class::of(sig[0]).is_basic() {
         frames.pop();
         frames.push(Frame::Value);
         enter(limit, big, frames, sig, from)
@@ -401,8 +401,8 @@ fn in_items<'a>(
         (λ x. in_items limit big (outer frames.old) array.entry.item.now array.entry.types.now array.entry.behind.at array.entry.behind.rest.now sig.now from.entry.at from.entry.rest.now ≡ Ok (piece x.0, state frames.new x.1.now x.2.at x.2.rest.now))
         (λ e. in_items limit big (outer frames.old) array.entry.item.now array.entry.types.now array.entry.behind.at array.entry.behind.rest.now sig.now from.entry.at from.entry.rest.now ≡ Err e) }
 {
-    if sig.len() == 0 {
-        if from.rest.len() == 0 {
+    if sig.is_empty() {
+        if from.rest.is_empty() {
             frames.pop();
             resumed(
                 frames,
@@ -484,7 +484,7 @@ pub fn values_at<'a>(
     let mut types = signature;
     let mut here = from;
     for i in 0..MOST_PARTS {
-        if frames.len() == 0 && types.len() == 0 {
+        if frames.len() == 0 && types.is_empty() {
             return Ok((i, here));
         }
         let (_, left, after) = next_in(limit, big, &mut frames, types, here)?;

@@ -8,6 +8,7 @@ ghost use Rattle.dbus_values.specs.Written.{tree, list_trees, HasForm};
 use crate::basics::gap;
 use crate::signature::item_align;
 use crate::value::{Value, ValueList};
+use pk_types::Text;
 use std::alloc::{AllocError, Global};
 
 /// How many bytes there are.
@@ -22,7 +23,7 @@ fn put_zeros(out: &mut Vec<u8>, n: usize) -> Result<(), AllocError>
     requires { n < 8 }
     ensures exact { OnOk result (out.new.items ≡ out.old.items ++ padding n) }
 {
-    for i in 0..n {
+    for _i in 0..n {
         out.extend_from_slice(&[0])?;
     }
     Ok(())
@@ -122,6 +123,30 @@ pub fn put_type(out: &mut Vec<u8>, value: &Value) -> Result<(), AllocError>
     }
 }
 
+/// A number of four bytes, with the padding before it.
+fn put_padded_u32(out: &mut Vec<u8>, n: u32) -> Result<(), AllocError>
+    ensures exact { OnOk result (out.new.items ≡ out.old.items ++ (padding (gap 4 (length out.old.items)) ++ bytes_of false w32 n)) }
+{
+    pad_to(out, 4)?;
+    put_u32(out, n)
+}
+
+/// A number of eight bytes, with the padding before it.
+fn put_padded_u64(out: &mut Vec<u8>, n: u64) -> Result<(), AllocError>
+    ensures exact { OnOk result (out.new.items ≡ out.old.items ++ (padding (gap 8 (length out.old.items)) ++ bytes_of false w64 n)) }
+{
+    pad_to(out, 8)?;
+    put_u64(out, n)
+}
+
+/// A text behind its length, with the padding before it.
+fn put_padded_text(out: &mut Vec<u8>, text: &Text) -> Result<(), AllocError>
+    ensures exact { OnOk result (out.new.items ≡ out.old.items ++ (padding (gap 4 (length out.old.items)) ++ (bytes_of false w32 (length text.now) ++ (text.now ++ 0 ∷ [])))) }
+{
+    pad_to(out, 4)?;
+    put_text(out, text.bytes())
+}
+
 /// A value, with the padding before it.
 #[tactic(auto, using(crate::proofs::Writing::value_rules))]
 pub fn put_value(alloc: Global, out: &mut Vec<u8>, value: &Value) -> Result<(), AllocError>
@@ -130,22 +155,10 @@ pub fn put_value(alloc: Global, out: &mut Vec<u8>, value: &Value) -> Result<(), 
     ensures exact { OnOk result (out.new.items ≡ out.old.items ++ marshalled false (length out.old.items) (tree value.now)) }
 {
     match value {
-        Value::Bool(truth) => {
-            pad_to(out, 4)?;
-            put_u32(out, if *truth { 1 } else { 0 })
-        }
-        Value::U32(n) => {
-            pad_to(out, 4)?;
-            put_u32(out, *n)
-        }
-        Value::U64(n) => {
-            pad_to(out, 8)?;
-            put_u64(out, *n)
-        }
-        Value::Text(text) => {
-            pad_to(out, 4)?;
-            put_text(out, text.bytes())
-        }
+        Value::Bool(truth) => put_padded_u32(out, u32::from(*truth)),
+        Value::U32(n) => put_padded_u32(out, *n),
+        Value::U64(n) => put_padded_u64(out, *n),
+        Value::Text(text) => put_padded_text(out, text),
         Value::Array { of, items } => {
             pad_to(out, 4)?;
             let at = length_of(out);

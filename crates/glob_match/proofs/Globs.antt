@@ -39,7 +39,8 @@ suffix_now : (test : List ℕ → Bool) (s : List ℕ) → test s ≡ true → s
 suffix_now test [] e = e
 suffix_now test (c ∷ s) e = ap (λ b. b || some_suffix test s) e
 
-or_true : (b : Bool) → (b || true) ≡ true
+-- true on the right decides
+pub or_true : (b : Bool) → (b || true) ≡ true
 or_true true = refl
 or_true false = refl
 

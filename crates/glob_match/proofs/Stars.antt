@@ -6,15 +6,12 @@ use Rattle.pk_types.specs.Glob.{glob, some_suffix}
 use Rattle.std.specs.Str.{chars}
 use Rattle.glob_match.specs.declared.walk.Outcome.{Outcome}
 use Rattle.glob_match.specs.declared.walk.Outcome.TheVariants.{Whole, Star, Differs}
+use Rattle.glob_match.proofs.Globs.{or_true}
 use Rattle.glob_match.specs.Fits.{NoStar, Fitted, FitIs, FirstFitIs, ShorterPattern}
 
 or_cases : (a b : Bool) (P : Type 0) → (a || b) ≡ true → (a ≡ true → P) → (b ≡ true → P) → P
 or_cases true b P e left right = left refl
 or_cases false b P e left right = right e
-
-or_true : (b : Bool) → (b || true) ≡ true
-or_true true = refl
-or_true false = refl
 
 right_of_and : (a b : Bool) → (a && b) ≡ true → b ≡ true
 right_of_and true b e = e

@@ -83,8 +83,5 @@ pub fn matches(pattern: &Text, text: &Text) -> bool
     while let Outcome::Star { pattern, text } = found {
         found = first_fit(pattern, text);
     }
-    match found {
-        Outcome::Whole => true,
-        _ => false,
-    }
+    matches!(found, Outcome::Whole)
 }

@@ -34,13 +34,7 @@ fn header_parts<'a>(name: &'a [u8], behind: &[u8]) -> Result<Said<'a>, KeyFaultK
     ensures says { line_in result ≡ header name.now behind.now }
     ensures texts { IsClean name.now → IfOk result SaysTexts }
 {
-    if name.is_empty() {
-        return Err(KeyFaultKind::BadHeader);
-    }
-    if name.contains(&b'[') {
-        return Err(KeyFaultKind::BadHeader);
-    }
-    if !behind.is_empty() {
+    if name.is_empty() || name.contains(&b'[') || !behind.is_empty() {
         return Err(KeyFaultKind::BadHeader);
     }
     if is_too_long(name) {

@@ -1,5 +1,6 @@
 // What a line of the client is answered, by where the authentication stands.
-ghost use Rattle.std.specs.Prelude.{◌≡◌, drop};
+ghost use Rattle.std.specs.Prelude.{◌≡◌, drop, length, nat_eq, is_some, IfSome};
+ghost use Rattle.std.specs.List.{starts_with};
 ghost use Rattle.link_handshake.specs.Answers.{identity, is_auth, is_error, waiting_answer, data_answer, accepted_answer, line_answer};
 
 use crate::digits::is_uid;
@@ -50,6 +51,14 @@ fn is_error_line(text: &[u8]) -> bool
     text == b"ERROR".as_slice() || text.starts_with(b"ERROR ")
 }
 
+/// What stands behind this front, where the text begins with it.
+fn behind<'a>(front: &[u8], text: &'a [u8]) -> Option<&'a [u8]>
+    ensures begins { is_some result ≡ starts_with nat_eq text.now front.now }
+    ensures behind { IfSome result (λ rest. rest.now ≡ drop (length front.now) text.now) }
+{
+    text.strip_prefix(front)
+}
+
 fn when_waiting(door: u32, text: &[u8]) -> LineAnswer
     ensures answer { result ≡ waiting_answer door text.now }
 {
@@ -59,8 +68,7 @@ fn when_waiting(door: u32, text: &[u8]) -> LineAnswer
     if text == b"AUTH EXTERNAL".as_slice() {
         return LineAnswer::Says(ShakeReply::Data, Phase::DataAwaited);
     }
-    if text.starts_with(b"AUTH EXTERNAL ") {
-        let (_, digits) = text.split_at(14);
+    if let Some(digits) = behind(b"AUTH EXTERNAL ", text) {
         return by_identity(door, digits);
     }
     if is_auth_line(text) || is_error_line(text) {
@@ -78,8 +86,7 @@ fn when_data_awaited(door: u32, text: &[u8]) -> LineAnswer
     if text == b"DATA".as_slice() || text == b"DATA ".as_slice() {
         return LineAnswer::Says(ShakeReply::Ok, Phase::Accepted);
     }
-    if text.starts_with(b"DATA ") {
-        let (_, digits) = text.split_at(5);
+    if let Some(digits) = behind(b"DATA ", text) {
         return by_identity(door, digits);
     }
     if text == b"CANCEL".as_slice() || is_error_line(text) {

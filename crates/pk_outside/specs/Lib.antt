@@ -9,4 +9,5 @@ pub mod Refusals
 pub mod Memory
 pub mod Held
 pub mod HeldLink
+pub mod Empty
 pub mod Real

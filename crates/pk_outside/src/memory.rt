@@ -1,10 +1,12 @@
 // The objects in memory, which stand for the outside in tests.
 mod bytes;
 mod calls;
-mod nothing;
+mod empty;
+mod link;
 mod sure;
 
 pub use bytes::{ByteSink, ByteSource};
 pub use calls::Calls;
-pub use nothing::{ByteLink, ListClock, ListDoor, ListSalt, ListStation, ListTree, SureTree};
+pub use empty::{ListClock, ListDoor, ListSalt, ListStation, ListTree, SureTree};
+pub use link::ByteLink;
 pub use sure::{SureSink, SureSource};

@@ -47,7 +47,7 @@ impl<R: Read + Drop + Send> ReadSource<R> {
 
 impl<R: Read + Drop + Send> Source for ReadSource<R> {
     ghost use Rattle.std.specs.Prelude.{None};
-    ghost use Rattle.pk_outside.specs.Real.{reader_of};
+    ghost use Rattle.pk_outside.specs.Real.{reader_of, source_faults, source_budget, source_ended};
 
     ghost left = { λ _. None };
 
@@ -64,9 +64,10 @@ impl<R: Read + Drop + Send> Source for ReadSource<R> {
     fn read(&mut self, buffer: &mut [u8]) -> Result<usize, Failed>
         requires { 0 < length buffer.old }
         ensures bound { ReadsAtMost result buffer.new }
-        ensures end { IfOk result (λ n. n ≡ 0 → IsTrue self.new.ended) }
-        ensures cause { HasCause self.old.faults self.new.faults result }
-        ensures fewer { MatchResult result (λ n. self.new.budget + n ≤ self.old.budget) (λ _. self.new.budget ≤ self.old.budget) }
+        ensures end { IfOk result (λ n. n ≡ 0 → IsTrue (source_ended self.new)) }
+        ensures cause { HasCause (source_faults self.old) (source_faults self.new) result }
+        ensures fewer { MatchResult result (λ n. source_budget self.new + n ≤ source_budget self.old)
+            (λ _. source_budget self.new ≤ source_budget self.old) }
         ensures through { IfOk result (λ n. Consumes (R.remaining (reader_of self.old)) (R.remaining (reader_of self.new)) (take n buffer.new)) }
     {
         let room = buffer.len().min(self.budget);
@@ -110,7 +111,7 @@ impl<W: Write + Drop + Send> WriteSink<W> {
 
 impl<W: Write + Drop + Send> Sink for WriteSink<W> {
     ghost use Rattle.std.specs.Prelude.{None};
-    ghost use Rattle.pk_outside.specs.Real.{writer_of};
+    ghost use Rattle.pk_outside.specs.Real.{writer_of, sink_faults};
 
     ghost held = { λ _. None };
 
@@ -119,7 +120,7 @@ impl<W: Write + Drop + Send> Sink for WriteSink<W> {
     fn write(&mut self, bytes: &[u8]) -> Result<usize, Failed>
         requires { 0 < length bytes.now }
         ensures bound { IfOk result (λ n. (0 < n) × (n ≤ length bytes.now)) }
-        ensures cause { HasCause self.old.faults self.new.faults result }
+        ensures cause { HasCause (sink_faults self.old) (sink_faults self.new) result }
         ensures through { IfOk result (λ n. Appends (W.contents (writer_of self.old)) (W.contents (writer_of self.new)) (take n bytes.now)) }
     {
         match self.inner.write(bytes) {

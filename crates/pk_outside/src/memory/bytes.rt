@@ -1,5 +1,5 @@
 // Sources and sinks over bytes in memory, whose calls can be made to fail.
-ghost use Rattle.std.specs.Prelude.{◌≡◌, ◌||◌, ◌==◌, ◌+◌, ◌-◌, ◌^◌, ◌<◌, ◌≤◌, [], ◌++◌, ℕ, Some, IsTrue, IfOk, MatchResult, is_err, nat_le, length, drop, vec_len, vec_capacity};
+ghost use Rattle.std.specs.Prelude.{◌≡◌, ◌||◌, ◌==◌, ◌+◌, ◌-◌, ◌^◌, ◌<◌, ◌≤◌, [], ◌++◌, ℕ, Some, IsTrue, IfOk, MatchResult, is_err, nat_le, length, take, drop, vec_len, vec_capacity};
 ghost use Rattle.std.specs.Io.{ReadsAtMost};
 ghost use Rattle.pk_outside.specs.Causes.{HasCause};
 ghost use Rattle.pk_outside.specs.Memory.{fails_next, one_call};
@@ -50,12 +50,20 @@ impl ByteSource {
     }
 }
 
-/// Copies the front over the first bytes of the buffer.
-pub(crate) fn copy_front(buffer: &mut [u8], front: &[u8])
-    requires { length front.now ≤ length buffer.old }
-    ensures copied { buffer.new ≡ front.now ++ drop (length front.now) buffer.old }
+/// Copies the bytes from `at` on over the front of the buffer, at most `piece` of them, and answers
+/// their number.
+pub(crate) fn copy_from(bytes: &[u8], at: usize, piece: usize, buffer: &mut [u8]) -> usize
+    requires within { at ≤ length bytes.now }
+    ensures bytes { drop at bytes.now ≡ take result buffer.new ++ drop (at + result) bytes.now }
+    ensures bound { result ≤ length buffer.new }
+    ensures within { at + result ≤ length bytes.now }
+    ensures end { result ≡ 0 → 0 < piece → 0 < length buffer.old → at ≡ length bytes.now }
 {
-    buffer[..front.len()].copy_from_slice(front);
+    let (_, rest) = bytes.split_at(at);
+    let n = buffer.len().min(piece).min(rest.len());
+    let (front, _) = rest.split_at(n);
+    buffer[..n].copy_from_slice(front);
+    n
 }
 
 impl Source for ByteSource {
@@ -96,10 +104,7 @@ impl Source for ByteSource {
             return Err(Failed);
         }
         self.calls.pass();
-        let (_, rest) = self.bytes.split_at(self.at);
-        let n = buffer.len().min(self.piece).min(rest.len());
-        let (front, _) = rest.split_at(n);
-        copy_front(buffer, front);
+        let n = copy_from(&self.bytes, self.at, self.piece, buffer);
         self.at += n;
         Ok(n)
     }

@@ -1,7 +1,7 @@
 // A source and a sink in memory that never fail.
 ghost use Rattle.std.specs.Prelude.{◌≡◌, ◌^◌, ◌<◌, ◌≤◌, length, vec_len};
 
-use crate::memory::bytes::copy_front;
+use crate::memory::bytes::copy_from;
 use crate::{Failed, Sink, Source};
 
 /// A source of bytes in memory that never fails: its count of faults is always 0.
@@ -52,10 +52,7 @@ impl Source for SureSource {
     ghost ended_is_used_up = { λ s at_end. used_up s.at s.bytes.items at_end };
 
     fn read(&mut self, buffer: &mut [u8]) -> Result<usize, Failed> {
-        let (_, rest) = self.bytes.split_at(self.at);
-        let n = buffer.len().min(self.piece).min(rest.len());
-        let (front, _) = rest.split_at(n);
-        copy_front(buffer, front);
+        let n = copy_from(&self.bytes, self.at, self.piece, buffer);
         self.at += n;
         Ok(n)
     }

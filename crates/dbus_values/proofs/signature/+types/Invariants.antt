@@ -15,4 +15,4 @@ abbrev pub decreases-type_end : goal.decreases-type_end
 decreases-type_end l = 4 * l.level
 
 abbrev pub invariant-members_end-loop-i : goal.invariant-members_end-loop-i
-invariant-members_end-loop-i l = members_end (type_end l.level l.arrays l.structs) (length l.fn.sig - l.i) l.here ≡ members_end (type_end l.level l.arrays l.structs) (length l.fn.sig) l.fn.sig
+invariant-members_end-loop-i l = members_end (type_end l.level l.arrays l.structs) (length l.fn.sig - l._i) l.here ≡ members_end (type_end l.level l.arrays l.structs) (length l.fn.sig) l.fn.sig

@@ -11,7 +11,7 @@ pub loop-item-init : goal.loop-item-init
 loop-item-init t c = record {
   so_far = refl;
   forms = array_begin c.in-Array.of c.in-Array.items c.args.value.now _ c.in-Array.is c.deref-item-items.ensures.value c.requires.form;
-  short = array_short c.in-Array.of c.in-Array.items c.args.value.now _ _ _ _ _ _ c.in-Array.is c.deref-item-items.ensures.value c.bytes-in-Array.ensures.bytes c.in_ok-pad_to-in-Array.ensures.exact c.in_ok-put_u32-in-Array.ensures.exact (c.in_ok-pad_to-in-Array-2.ensures.exact ∙ ap (λ (n : ℕ). c.put_u32-in-Array.new.out.items ++ padding (gap n (length c.put_u32-in-Array.new.out.items))) c.item_align.ensures.exact) c.requires.short;
+  short = array_short c.in-Array.of c.in-Array.items c.args.value.now _ _ _ _ _ _ c.in-Array.is c.deref-item-items.ensures.value c.bytes.ensures.bytes c.in_ok-pad_to-in-Array.ensures.exact c.in_ok-put_u32-in-Array.ensures.exact (c.in_ok-pad_to-in-Array-2.ensures.exact ∙ ap (λ (n : ℕ). c.put_u32.new.out.items ++ padding (gap n (length c.put_u32.new.out.items))) c.item_align.ensures.exact) c.requires.short;
 }
 
 pub put_value-requires : goal.put_value-requires
@@ -28,7 +28,7 @@ pub put_value-requires-in-loop-member : goal.put_value-requires-in-loop-member
 put_value-requires-in-loop-member t c = (search (rules, the_lemmas), ((drop_form _ c.loop-member.member-index _ c.loop-member-test.true (sym c.member-item.is) c.loop-member.invariant.forms).0, next_short _ c.loop-member.member-index _ _ _ 16777216 c.loop-member-test.true (sym c.member-item.is) c.loop-member.invariant.so_far c.loop-member.invariant.short))
 
 pub returns-after-loop-item : goal.returns-after-loop-item
-returns-after-loop-item t c = record { exact = array_done c.in-Array.of c.in-Array.items c.args.value.now _ _ c.loop-item.item-index _ _ _ _ _ _ _ _ c.in-Array.is c.deref-item-items.ensures.value c.loop-item-test.false c.bytes-in-Array.ensures.bytes c.in_ok-pad_to-in-Array.ensures.exact c.in_ok-put_u32-in-Array.ensures.exact (c.in_ok-pad_to-in-Array-2.ensures.exact ∙ ap (λ (n : ℕ). c.put_u32-in-Array.new.out.items ++ padding (gap n (length c.put_u32-in-Array.new.out.items))) c.item_align.ensures.exact) c.loop-item.invariant.so_far c.length_of-at.ensures.exact (omega (arith, c.length_of.ensures.exact, c.length_of-start.ensures.exact)) c.patch.ensures.exact }
+returns-after-loop-item t c = record { exact = array_done c.in-Array.of c.in-Array.items c.args.value.now _ _ c.loop-item.item-index _ _ _ _ _ _ _ _ c.in-Array.is c.deref-item-items.ensures.value c.loop-item-test.false c.bytes.ensures.bytes c.in_ok-pad_to-in-Array.ensures.exact c.in_ok-put_u32-in-Array.ensures.exact (c.in_ok-pad_to-in-Array-2.ensures.exact ∙ ap (λ (n : ℕ). c.put_u32.new.out.items ++ padding (gap n (length c.put_u32.new.out.items))) c.item_align.ensures.exact) c.loop-item.invariant.so_far c.length_of-at.ensures.exact (omega (arith, c.length_of.ensures.exact, c.length_of-start.ensures.exact)) c.patch.ensures.exact }
 
 pub returns-after-loop-member : goal.returns-after-loop-member
 returns-after-loop-member t c = record { exact = struct_done c.in-Struct.members c.args.value.now _ c.loop-member.member-index _ _ _ c.in-Struct.is c.deref-member-items.ensures.value c.loop-member-test.false c.in_ok-pad_to-in-Struct.ensures.exact c.loop-member.invariant.so_far }

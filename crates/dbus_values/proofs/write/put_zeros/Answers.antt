@@ -7,4 +7,4 @@ pub loop-i-init : goal.loop-i-init
 loop-i-init c = rw padding_none (sym (append-nil _))
 
 pub loop-i-preserved : goal.loop-i-preserved
-loop-i-preserved c = pushed _ _ _ c.loop-i.i c.loop-i.invariant c.in_ok-extend_from_slice.ensures.items
+loop-i-preserved c = pushed _ _ _ c.loop-i._i c.loop-i.invariant c.in_ok-extend_from_slice.ensures.items

@@ -13,9 +13,9 @@ returns-in-Whole c =
     let test : true ≡ glob pattern text = sym (whole_leads pattern text c.loop-found.found c.loop-found.invariant c.in-Whole.is) in
     record { glob = says_glob true pattern text test; test = test }
 
-pub returns-in_default-found : goal.returns-in_default-found
-returns-in_default-found c =
+pub returns-in_default-matches : goal.returns-in_default-matches
+returns-in_default-matches c =
     let pattern = chars c.args.pattern.now in
     let text = chars c.args.text.now in
-    let test : false ≡ glob pattern text = sym (whole_only pattern text c.loop-found.found c.loop-found.invariant c.in_default-found.not-Whole c.in_default.not-Star) in
+    let test : false ≡ glob pattern text = sym (whole_only pattern text c.loop-found.found c.loop-found.invariant c.in_default-matches.not-Whole c.in_default.not-Star) in
     record { glob = says_glob false pattern text test; test = test }

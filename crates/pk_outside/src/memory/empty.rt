@@ -1,12 +1,13 @@
-// Trees, doors, links, clocks, random words and stations in memory that hold nothing yet.
-ghost use Rattle.std.specs.Prelude.{◌≡◌, ℕ};
+// Trees, doors, clocks, random words and stations in memory that hold nothing.
+ghost use Rattle.std.specs.Prelude.{◌≡◌};
 ghost use Rattle.pk_outside.specs.Causes.{RoseWhere};
-ghost use Rattle.pk_outside.specs.Held.{IsUnused, source_calls, sink_calls};
+ghost use Rattle.pk_outside.specs.Empty.{door_uid, station_faults};
+ghost use Rattle.pk_outside.specs.Held.{source_calls, sink_calls};
 ghost use Rattle.pk_outside.specs.Stations.{has_fault};
 
 use crate::{
-    Accepted, ByteSink, ByteSource, Clock, Door, Ends, FileBytes, Link, Names, Salt, Station,
-    StationRefused, Tree, TreeRefused,
+    Accepted, ByteLink, Clock, Door, Ends, FileBytes, Names, Salt, Station, StationRefused, Tree,
+    TreeRefused,
 };
 use pk_types::Text;
 
@@ -37,68 +38,8 @@ impl Tree for ListTree {
     }
 }
 
-/// A tree in memory that never fails, without a file and without a directory.
-#[derive(Drop)]
-pub struct SureTree {}
-
-impl SureTree {
-    /// The empty tree. It takes no memory.
-    pub fn new() -> Self {
-        SureTree {}
-    }
-}
-
-impl Tree for SureTree {
-    ghost use Rattle.std.specs.Prelude.{[], Some};
-
-    ghost told = { λ _. Some (record { files = []; directories = [] }) };
-
-    ghost faults = { λ _. 0 };
-
-    fn names(&mut self, _path: &Text) -> Result<Names, TreeRefused> {
-        Ok(Names::Absent)
-    }
-
-    fn read(&mut self, _path: &Text, _limit: u64) -> Result<FileBytes, TreeRefused> {
-        Ok(FileBytes::Absent)
-    }
-}
-
-/// A link between two ends in memory.
-#[derive(Drop)]
-pub struct ByteLink {
-    input: ByteSource,
-    output: ByteSink,
-    ghost unused: { IsUnused input output },
-}
-
-impl ByteLink {
-    ghost use Rattle.pk_outside.specs.Held.{source_bytes};
-    ghost use Rattle.pk_outside.specs.HeldLink.{link_bytes};
-
-    /// A link of which nothing was read or written. It takes no memory.
-    pub fn new(input: ByteSource, output: ByteSink) -> Self
-        requires unused { IsUnused input output }
-        ensures bytes { link_bytes result ≡ source_bytes input }
-    {
-        ByteLink { input, output }
-    }
-}
-
-impl Link for ByteLink {
-    ghost use Rattle.std.specs.Prelude.{[], Some};
-
-    type In = ByteSource;
-
-    type Out = ByteSink;
-
-    ghost origin = { λ l. Some (record { path = []; bytes = l.input.bytes.items }) };
-
-    fn split(self) -> Ends<Self> {
-        let ByteLink { input, output } = self;
-        Ends { input, output }
-    }
-}
+/// A tree in memory that never fails: a `ListTree`, whose count of faults is always 0.
+pub type SureTree = ListTree;
 
 /// A door in memory that has no link to give.
 #[derive(Drop)]
@@ -119,13 +60,13 @@ impl Door for ListDoor {
 
     fn accept(&mut self) -> Accepted<ByteLink>
         ensures closed { result ≡ Accepted.Closed }
-        ensures owner { self.new.uid ≡ self.old.uid }
+        ensures owner { door_uid self.new ≡ door_uid self.old }
     {
         Accepted::Closed
     }
 
     fn back(&mut self, _ends: Ends<ByteLink>)
-        ensures owner { self.new.uid ≡ self.old.uid }
+        ensures owner { door_uid self.new ≡ door_uid self.old }
     {}
 
     fn uid(&self) -> u32 {
@@ -223,7 +164,7 @@ impl Station for ListStation {
     fn shut(&mut self, _door: ListDoor, _clock: ListClock, _salt: ListSalt) {}
 
     fn hang(&mut self, ends: Ends<ByteLink>)
-        ensures count { RoseWhere (has_fault (source_calls ends.input).faults (sink_calls ends.output).faults) self.old.faults self.new.faults }
+        ensures count { RoseWhere (has_fault (source_calls ends.input).faults (sink_calls ends.output).faults) (station_faults self.old) (station_faults self.new) }
     {
         if ends.input.faults() > 0 || ends.output.faults() > 0 {
             self.faults = self.faults.saturating_add(1);
