@@ -1,6 +1,5 @@
 -- The first Begin among outputs, and what follows for the challenge that it opens.
-use Rattle.std.proofs.Common.{◌≡◌, ℕ, ◌+◌, ◌<◌, List, refl, sym, ap, ◌∙◌, Option, Some, None, length, get_or, drop}
-use Rattle.std.specs.Prelude.{option_map, option_and_then}
+use Rattle.std.proofs.Common.{◌≡◌, ℕ, ◌+◌, ◌<◌, List, sym, ap, ◌∙◌, Some, None, length, get_or, drop}
 use Rattle.std.proofs.lemmas.List.{at_drop_more}
 use Rattle.pk_types.specs.declared.values.Identity.{Identity}
 use Rattle.authority_model.specs.declared.message.Output.{Output}

@@ -1,5 +1,5 @@
 -- The live callers, by what is kept of each.
-use Rattle.std.proofs.Common.{◌≡◌, ℕ, Bool, true, false, ◌&&◌, not, List, [], ◌∷◌, refl, ap, sym, ◌∙◌, Option, Some, None, is_some}
+use Rattle.std.proofs.Common.{◌≡◌, ℕ, false, ◌&&◌, not, List, [], ◌∷◌, refl, ap, sym, ◌∙◌, Option, Some, None, is_some}
 use Rattle.std.proofs.lemmas.List.Elements.{All-head, All-tail}
 use Rattle.std.proofs.lemmas.Map.Made.{is_some-lookup}
 use Rattle.std.proofs.lemmas.Map.Lookups.{btree_set_from_contains, exact_unsigned}
@@ -13,9 +13,9 @@ use Rattle.std.specs.Ordering.{nat_cmp}
 use Rattle.std.specs.BTreeMap.{is_at}
 use Rattle.std.specs.BTreeSet.{BTreeSet}
 use Rattle.authority_model.specs.declared.journal.Item.{Item}
-use Rattle.authority_model.specs.Peers.{uid_of, departed, last_announced, live, connected, live_callers}
+use Rattle.authority_model.specs.Peers.{uid_of, departed, live, connected, live_callers}
 use Rattle.journal_state.specs.declared.connections.Connection.{Connection}
-use Rattle.journal_state.specs.Connected.{connection, known, row_of, Tells, live_rows}
+use Rattle.journal_state.specs.Connected.{connection, row_of, Tells, live_rows}
 use Rattle.journal_state.proofs.Rising.{connected_sorted, connected_has}
 
 -- who is known has a uid

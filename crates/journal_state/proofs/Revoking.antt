@@ -1,5 +1,5 @@
 -- What an item revokes, and the grants after it.
-use Rattle.std.proofs.Common.{◌≡◌, ℕ, Bool, true, false, ◌&&◌, ◌||◌, not, List, ◌∷◌, ◌++◌, refl, sym, ap, ◌∙◌, Option, length, ◌+◌}
+use Rattle.std.proofs.Common.{◌≡◌, ℕ, Bool, true, false, ◌&&◌, ◌||◌, not, List, ◌∷◌, ◌++◌, sym, ap, ◌∙◌, Option, length, ◌+◌}
 use Rattle.std.specs.Prelude.{filter, option_to_list}
 use Rattle.std.specs.Option.{option_map_or}
 use Rattle.authority_model.specs.declared.journal.Entry.{Entry}
@@ -7,7 +7,6 @@ use Rattle.authority_model.specs.declared.journal.Item.{Item}
 use Rattle.authority_model.specs.declared.verdict.GrantRow.{GrantRow}
 use Rattle.authority_model.specs.Keys.{uid_of_key}
 use Rattle.authority_model.specs.Peers.{live, may_for, uid_of, call_in}
-use Rattle.authority_model.specs.Agents.{unlists}
 use Rattle.authority_model.specs.Grants.{revoke_of, revokes, ends_grant, kept, made, granted}
 use Rattle.journal_state.specs.declared.ending.Ending.{Ending}
 use Rattle.journal_state.specs.declared.revocation.Revocation.{Revocation}

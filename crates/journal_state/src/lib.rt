@@ -20,6 +20,8 @@ mod sent;
 mod state;
 mod subjects;
 mod tables;
+#[cfg(test)]
+mod tests;
 
 pub use challenges::Challenges;
 pub use connections::{Connection, Connections};

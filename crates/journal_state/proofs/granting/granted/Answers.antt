@@ -1,4 +1,4 @@
-use Rattle.std.proofs.Common.{◌∙◌, ap, sym, Some}
+use Rattle.std.proofs.Common.{◌∙◌, ap, sym}
 use Rattle.std.specs.Prelude.{option_and_then}
 use Rattle.authority_model.specs.Challenges.{at_agent}
 use Rattle.authority_model.specs.Grants.{serial_returned, made_by, granted, kept, made}

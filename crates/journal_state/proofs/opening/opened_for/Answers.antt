@@ -1,4 +1,4 @@
-use Rattle.std.proofs.Common.{◌∙◌, ap, Some}
+use Rattle.std.proofs.Common.{◌∙◌, ap}
 use Rattle.std.specs.Prelude.{option_and_then}
 use Rattle.authority_model.specs.Facts.{facts_seen}
 use Rattle.authority_model.specs.Rules.{implicit}

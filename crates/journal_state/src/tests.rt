@@ -1,0 +1,182 @@
+// One history: a check is asked, answered and granted, and the grant is revoked. What is wanted is said
+// by polkit(8).
+ghost use Rattle.std.specs.Prelude.{IfOk};
+ghost use Rattle.authority_model.specs.Small.{IsShort};
+
+use crate::State;
+use authority_model::{
+    Action, Call, Cookie, Entry, Event, Loaded, Message, Output, OutputList, Process,
+};
+use pk_types::{ActionId, Identity, Implicit, List, Subject, Text};
+use std::alloc::Global;
+use std::test::Fail;
+
+fn text(alloc: Global, bytes: &str) -> Result<Text, Fail> {
+    Ok(Text::try_from_bytes(alloc, bytes.as_bytes())?)
+}
+
+/// A process of uid 1000, and an action for which that user has to authenticate.
+fn load(alloc: Global) -> Result<Loaded, Fail>
+    ensures entries { IfOk result (λ l. IsShort l.policy.entries) }
+{
+    let mut loaded = Loaded::empty(alloc);
+    loaded.policy.actions.try_push(Action {
+        id: ActionId::read(&text(alloc, "a.keep")?)?,
+        descriptions: List::new(alloc),
+        messages: List::new(alloc),
+        vendor: Text::new(alloc),
+        vendor_url: Text::new(alloc),
+        icon: Text::new(alloc),
+        any: Implicit::AuthSelfKeep,
+        inactive: Implicit::No,
+        active: Implicit::No,
+        annotations: List::new(alloc),
+    })?;
+    loaded.world.processes.try_push(Process {
+        pid: 50,
+        start: 7,
+        uid: 1000,
+        session: None,
+    })?;
+    Ok(loaded)
+}
+
+/// What the agent of caller 1 is asked.
+fn begin(alloc: Global) -> Result<OutputList, Fail> {
+    let mut identities = List::new(alloc);
+    identities.try_push(Identity::User(1000))?;
+    let mut outputs = List::new(alloc);
+    outputs.try_push(Output {
+        to: 1,
+        message: Message::Begin {
+            path: text(alloc, "/agent")?,
+            action: text(alloc, "a.keep")?,
+            text: Text::new(alloc),
+            icon: Text::new(alloc),
+            details: List::new(alloc),
+            cookie: Cookie {
+                serial: 1,
+                salt: 255,
+            },
+            identities,
+        },
+    })?;
+    Ok(outputs)
+}
+
+fn call(call: Call) -> Event {
+    Event::Call {
+        serial: 3,
+        quiet: false,
+        call,
+    }
+}
+
+/// Caller 1 registers an agent for itself.
+fn register(alloc: Global) -> Result<Event, Fail> {
+    Ok(call(Call::Register {
+        subject: Subject::BusName {
+            name: text(alloc, ":1.1")?,
+        },
+        locale: Text::new(alloc),
+        path: text(alloc, "/agent")?,
+    }))
+}
+
+fn check(alloc: Global) -> Result<Event, Fail> {
+    Ok(call(Call::Check {
+        subject: Subject::Process { pid: 50, start: 7 },
+        action: text(alloc, "a.keep")?,
+        details: List::new(alloc),
+        flags: 1,
+        cancel: Text::new(alloc),
+    }))
+}
+
+fn respond(alloc: Global) -> Result<Event, Fail> {
+    Ok(call(Call::Respond {
+        cookie: text(alloc, "1-000000000000000000000000000000ff")?,
+        identity: Identity::User(1000),
+    }))
+}
+
+fn revoke(alloc: Global) -> Result<Event, Fail> {
+    let id = text(alloc, "tmpauthz0")?;
+    Ok(call(Call::RevokeOne { id }))
+}
+
+/// The event at a place of the journal.
+fn event(alloc: Global, place: usize) -> Result<Event, Fail> {
+    match place {
+        0 => Ok(Event::Connect { uid: 1000 }),
+        1 => Ok(call(Call::Announce { pid: 50, start: 7 })),
+        2 => register(alloc),
+        3 => check(alloc),
+        4 => Ok(Event::Connect { uid: 0 }),
+        5 => respond(alloc),
+        6 => Ok(Event::Returned { serial: 1 }),
+        7 => revoke(alloc),
+        _ => Ok(Event::Depart),
+    }
+}
+
+/// Carries a state on by the event at a place, at second 10.
+fn step(alloc: Global, state: &mut State, loaded: &Loaded, place: usize) -> Result<(), Fail>
+    requires { IsShort loaded.now.policy.entries }
+{
+    let entry = Entry {
+        caller: if place == 4 || place == 5 { 2 } else { 1 },
+        moment: 10,
+        salt: 255,
+        event: event(alloc, place)?,
+        outputs: if place == 3 {
+            begin(alloc)?
+        } else {
+            List::new(alloc)
+        },
+    };
+    state.after(loaded, place as u64, &entry, None)?;
+    Ok(())
+}
+
+/// Whether the process of caller 1 is known, and how many live callers, registrations, pending
+/// challenges, challenges opened, grants, grants made and outputs to caller 1 there are.
+fn seen(alloc: Global, state: &State) -> Result<(bool, [u64; 7]), Fail> {
+    Ok((
+        state.connections.announced(1) == Some((50, 7)),
+        [
+            state.connections.live_callers(alloc)?.len() as u64,
+            state.registrations.as_slice().len() as u64,
+            state.challenges.as_slice().len() as u64,
+            state.challenges.opened(),
+            state.grants.as_slice().len() as u64,
+            state.grants.made(),
+            state.sent.count(1),
+        ],
+    ))
+}
+
+/// What is seen after the event at each place.
+const ROWS: [(bool, [u64; 7]); 9] = [
+    (false, [1, 0, 0, 0, 0, 0, 0]),
+    (true, [1, 0, 0, 0, 0, 0, 0]),
+    (true, [1, 1, 0, 0, 0, 0, 0]),
+    (true, [1, 1, 1, 1, 0, 0, 1]),
+    (true, [2, 1, 1, 1, 0, 0, 1]),
+    (true, [2, 1, 1, 1, 0, 0, 1]),
+    (true, [2, 1, 0, 1, 1, 1, 1]),
+    (true, [2, 1, 0, 1, 0, 1, 1]),
+    (false, [1, 0, 0, 1, 0, 1, 1]),
+];
+
+#[test]
+fn answered_check_makes_a_grant(rt: HostRuntime) -> Result<(), Fail> {
+    let alloc = rt.alloc();
+    let loaded = load(alloc)?;
+    let mut state = State::start(alloc);
+    for (place, row) in ROWS.iter().enumerate() {
+        step(alloc, &mut state, &loaded, place)?;
+        assert_eq!(rt; seen(alloc, &state)?, *row);
+    }
+    Ok(())
+}
