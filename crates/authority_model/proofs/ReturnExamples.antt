@@ -4,13 +4,15 @@ use Rattle.std.specs.Prelude.{codes}
 use Rattle.std.specs.Fmt.{digits}
 use Rattle.pk_types.specs.declared.values.Implicit.{Implicit}
 use Rattle.pk_types.specs.declared.values.Category.{Category}
+use Rattle.pk_types.specs.declared.values.Identity.{Identity}
+use Rattle.authority_model.specs.declared.event.Call.{Call}
 use Rattle.authority_model.specs.declared.message.Output.{Output}
 use Rattle.authority_model.specs.declared.verdict.Reason.{Reason}
 use Rattle.authority_model.specs.declared.load.Loaded.{Loaded}
 use Rattle.authority_model.specs.declared.policy.Action.{Action}
 use Rattle.authority_model.specs.Words.{Bytes}
 use Rattle.authority_model.specs.Cookies.{hex}
-use Rattle.authority_model.proofs.Setup.{Line, Shown, peers_of, asked_at, setup, load_of, other_actions, other_processes, in_s1, a_self, action, register, ask, respond, return, load, cookie_1, cookie_2, begin, alice, done, yes, yes_granted, no, changed_1_to_4}
+use Rattle.authority_model.proofs.Setup.{Line, Shown, peers_of, asked_at, call, setup, load_of, other_actions, other_processes, in_s1, a_self, action, register, ask, respond, return, load, cookie_1, cookie_2, begin, alice, done, yes, yes_granted, no, changed_1_to_4}
 
 -- a.self is asked and answered, and before its agent returns these actions are loaded
 abbrev reloaded : List Action → List Output → List Line
@@ -41,6 +43,17 @@ identity_gone_meanwhile : Shown (peers_of (administered (codes "unix-group:wheel
     ∷ return 0 2 (no 1 1 Reason.IdentityGone) ∷ [])
 unfolding hex digits
 identity_gone_meanwhile = refl
+
+-- two administrators answer one after another, and the first answer stands: when only the second is one any more, the identity that answered is gone
+first_answer_stands : Shown (peers_of (load_of (a_self ∷ other_actions) (codes "unix-user:alice" ∷ codes "unix-user:bob" ∷ []) (in_s1 ∷ other_processes))
+    ++ register 0
+    ∷ ask 0 1 (codes "a.admin") (begin (codes "a.admin") 1 (Identity.User 1000 ∷ Identity.User 1001 ∷ []))
+    ∷ respond 0 1 cookie_1 (done 2 1)
+    ∷ call 0 2 2 (Call.Respond cookie_1 (Identity.User 1001)) (done 2 2)
+    ∷ load 0 (administered (codes "unix-user:bob")) changed_1_to_4
+    ∷ return 0 2 (no 1 1 Reason.IdentityGone) ∷ [])
+unfolding hex digits
+first_answer_stands = refl
 
 -- two challenges for one subject and action are answered: the first return makes a grant, and the second is yes by it
 second_return_by_grant : Shown (peers_of setup

@@ -29,4 +29,3 @@ pub mod Details
 pub mod Causes
 pub mod Costs
 pub mod Small
-pub mod Built
