@@ -203,6 +203,12 @@ fn checks_by_root_and_by_defaults(rt: HostRuntime) -> Result<(), Fail> {
     for row in &ROWS {
         assert!(rt; is_told(&mut authority, alloc, row)?, "{}", row.4);
     }
+    let quiet = Event::Call {
+        serial: 9,
+        quiet: true,
+        call: Call::Reload,
+    };
+    assert!(rt; answered(&mut authority, 2, quiet) == Some(Told::Nothing));
     Ok(())
 }
 

@@ -23,7 +23,12 @@ const ROWS: [Row; 26] = [
     ("process 5 5 7 \n", "", "BadLine 1 Value", 6),
     ("check 1 1 process:1:1 a no\n", "", "BadLine 1 Value", 6),
     ("imply a b\n", "", "BadLine 1 Value", 6),
-    ("action a no no no\ngone-action a\nowner a u\n", "", "BadLine 3 Value", 6),
+    (
+        "action a no no no\ngone-action a\nowner a u\n",
+        "",
+        "BadLine 3 Value",
+        6,
+    ),
     ("at 5\nat 05\n", "", "BadLine 2 Number", 6),
     (
         "at 9\nprocess 5 5 7 -\naction a auth_self yes yes\npeer 1 7\nat 3\ncheck 1 1 process:5:5 a\nat 4611686018427387904\ncheck 1 2 process:5:5 a\n",
