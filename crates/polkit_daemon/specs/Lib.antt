@@ -1,3 +1,4 @@
+pub mod Codes
 pub mod Commands
 pub mod Counted
 pub mod Lines

@@ -10,7 +10,9 @@ mod top;
 mod written;
 
 pub use command::Command;
-pub use refused::{LoadLimit, LoadRefused, MessageFault, TableFault};
+pub use dbus_values::FaultKind;
+pub use refused::{LoadLimit, LoadRefused, TableFault};
 pub use replaying::replay;
+pub use scenario_text::LineKind;
 pub use status::Status;
 pub use top::polkitd;

@@ -1,4 +1,4 @@
-// What a load of a tree and a reader of messages may refuse, as the status of a command tells it.
+// What a load of a tree may refuse, as the status of a command tells it.
 use pk_types::Text;
 use std::fmt;
 
@@ -39,31 +39,6 @@ pub enum LoadRefused {
     Limit { which: LoadLimit, count: u64 },
     /// A table is refused. The file is its path below the root.
     BadTable { file: Text, fault: TableFault },
-}
-
-/// Why bytes are no message of the D-Bus Specification.
-#[derive(Clone, Copy, Debug, PartialEq, Eq)]
-pub enum MessageFault {
-    /// The byte order is neither `l` nor `B`.
-    Endian,
-    /// The message type is 0.
-    Kind,
-    /// The protocol version is not 1.
-    Version,
-    /// The serial is 0.
-    Serial,
-    /// A header field is out of its form, comes twice or lacks.
-    Fields,
-    /// A byte of padding is not 0.
-    Padding,
-    /// A boolean is neither 0 nor 1.
-    Bool,
-    /// A text, an object path or a signature is out of its form.
-    Text,
-    /// A length passes an end or its limit, or bytes are left over.
-    Length,
-    /// Too many containers stand inside each other.
-    Depth,
 }
 
 impl fmt::Display for TableFault {

@@ -70,7 +70,7 @@ fn write_last<O: Sink>(
 }
 
 /// Does what a line says, and writes its answers.
-fn answer_line<O: Sink>(
+fn answer<O: Sink>(
     alloc: Global,
     stage: &mut Stage,
     counts: &mut Counts,
@@ -133,25 +133,11 @@ pub fn replay<T: Tree, I: Source, O: Sink>(
     let mut number = 1u64;
     'lines: loop {
         match reader.next_line(input, &mut line, MAX_LINE) {
-            LineGot::Line => match answer_line(
-                alloc,
-                &mut stage,
-                &mut counts,
-                line.as_slice(),
-                number,
-                output,
-            ) {
+            LineGot::Line => match answer(alloc, &mut stage, &mut counts, &line, number, output) {
                 Ok(()) => number += 1,
                 Err(stopped) => return status_of(stopped, number),
             },
-            LineGot::Last => match answer_line(
-                alloc,
-                &mut stage,
-                &mut counts,
-                line.as_slice(),
-                number,
-                output,
-            ) {
+            LineGot::Last => match answer(alloc, &mut stage, &mut counts, &line, number, output) {
                 Ok(()) => return Status::Done,
                 Err(stopped) => return status_of(stopped, number),
             },

@@ -1,5 +1,9 @@
 // How a command of the daemon ended.
-use crate::refused::{LoadRefused, MessageFault};
+ghost use Rattle.std.specs.Prelude.{◌≡◌};
+ghost use Rattle.polkit_daemon.specs.Codes.{code_of};
+
+use crate::refused::LoadRefused;
+use dbus_values::FaultKind;
 use scenario_text::LineKind;
 use std::fmt;
 
@@ -26,7 +30,7 @@ pub enum Status {
     /// A line of the scenario is not in its grammar. Lines are counted from 1.
     BadLine { line: u64, kind: LineKind },
     /// The input is no message, at this byte.
-    BadBytes { kind: MessageFault, at: u64 },
+    BadBytes { kind: FaultKind, at: u64 },
     /// The input ended inside a message, of which so many bytes came.
     Truncated { rest: u64 },
     /// A listening socket could not be made or shut.
@@ -37,7 +41,9 @@ pub enum Status {
 
 impl Status {
     /// The exit code of the program.
-    pub fn code(&self) -> u8 {
+    pub fn code(&self) -> u8
+        ensures code { result ≡ code_of self.now }
+    {
         match self {
             Status::Done => 0,
             Status::Usage => 1,

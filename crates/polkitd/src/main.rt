@@ -3,7 +3,7 @@
 #![tactic(auto)]
 
 use pk_outside::{ListStation, ListTree, ReadSource, WriteSink};
-use pk_types::{List, NoMemory, Text, TextList};
+use pk_types::{List, Text, TextFault, TextList};
 use polkit_daemon::{Status, polkitd};
 use std::process::ExitCode;
 use std::rt::Env;
@@ -11,25 +11,45 @@ use std::sync::Wait;
 use std::thread::Threads;
 use std::{env, io};
 
-const HELP: &str =
-    "usage: polkitd replay\n\nreplay  runs the scenario on standard input, and writes its answers to standard output\n\nOptions, each alone:\n  --help     shows this text\n  --version  shows the version\n\nExit status: 0 done, 1 usage, 3 read fault, 4 write fault, 6 a line that is not in the grammar,\n70 out of memory. Any but 0 is told by one line on standard error.\n";
+const HELP: &str = "usage: polkitd replay
+
+replay  runs the scenario on standard input, and writes its answers to standard output
+
+Options, each alone:
+  --help     shows this text
+  --version  shows the version
+
+Exit status: 0 done, 1 usage, 3 read fault, 4 write fault, 6 a line that is not in the grammar,
+70 out of memory. Any but 0 is told by one line on standard error.
+";
 
 const VERSION: &str = "polkitd 0.105.0\n";
 
-/// The words behind the program's name, or none where they are no texts.
-fn words<R: Env + AllocGlobal>(rt: &R) -> Result<Option<TextList>, NoMemory> {
+/// How words that could not be read end the program.
+fn unread(fault: io::Error) -> Status {
+    match fault.kind() {
+        io::ErrorKind::OutOfMemory => Status::NoMemory,
+        _ => Status::Usage,
+    }
+}
+
+/// How a word that is no text ends the program.
+fn no_text(fault: TextFault) -> Status {
+    match fault {
+        TextFault::TooLong { .. } | TextFault::BadByte { .. } => Status::Usage,
+        TextFault::NoMemory => Status::NoMemory,
+    }
+}
+
+/// The words behind the program's name, or how their want ends the program.
+fn words<R: Env + AllocGlobal>(rt: &R) -> Result<TextList, Status> {
     let alloc = rt.alloc();
     let mut words = List::new(alloc);
-    let Ok(args) = env::args(rt) else {
-        return Ok(None);
-    };
-    for word in args.skip(1) {
-        match Text::try_from_bytes(alloc, word.as_bytes()) {
-            Ok(text) => words.try_push(text)?,
-            Err(_) => return Ok(None),
-        }
+    for word in env::args(rt).map_err(unread)?.skip(1) {
+        let word = Text::try_from_bytes(alloc, word.as_bytes()).map_err(no_text)?;
+        words.try_push(word).map_err(|_| Status::NoMemory)?;
     }
-    Ok(Some(words))
+    Ok(words)
 }
 
 /// The text that the only word asks for, if it does.
@@ -46,9 +66,8 @@ where
     R::Reader: Send,
 {
     let words = match words(rt) {
-        Ok(Some(words)) => words,
-        Ok(None) => return Status::Usage,
-        Err(NoMemory) => return Status::NoMemory,
+        Ok(words) => words,
+        Err(status) => return status,
     };
     if let Some(text) = told_by(words.as_slice()) {
         return match print!(rt; "{text}") {

@@ -23,21 +23,21 @@ pub lines-preserved : goal.lines-preserved
 lines-preserved g c = record {
   so_far =
       let t = c.in-Line.ensures.takes in
-      go_on c.lines.invariant.so_far (g.I.Source.ended c.next_line.new.input) _ _ t.0 _ c.next_line.new.line.items _ t.1 t.2 (rw c.as_slice.ensures.value at c.in-Ok-answer_line.ensures.done);
-  counted = c.in-Ok-answer_line.ensures.counted;
+      go_on c.lines.invariant.so_far (g.I.Source.ended c.next_line.new.input) _ _ t.0 _ c.next_line.new.line.items _ t.1 t.2 (rw c.deref.ensures.value at c.in-Ok-answer.ensures.done);
+  counted = c.in-Ok-answer.ensures.counted;
   read = omega (arith, c.lines.invariant.read, c.next_line.ensures.later);
-  wrote = omega (arith, c.lines.invariant.wrote, c.answer_line.ensures.later);
+  wrote = omega (arith, c.lines.invariant.wrote, c.answer.ensures.later);
   count = omega (arith, c.lines.invariant.count, c.in-Line.ensures.fewer refl);
 }
 
-pub returns-in-Err-answer_line-clause-run : goal.returns-in-Err-answer_line-clause-run
-returns-in-Err-answer_line-clause-run g c =
+pub returns-in-Err-answer-clause-run : goal.returns-in-Err-answer-clause-run
+returns-in-Err-answer-clause-run g c =
     let so = c.lines.invariant.so_far in
     let t = c.in-Line.ensures.takes in
     rw c.status_of.ensures.status
-    (stopped_gives c.in-Err-answer_line.stopped so (g.I.Source.ended c.next_line.new.input) (g.I.Source.left c.next_line.new.input) (g.O.Sink.held c.answer_line.new.output) t.0 c.next_line.new.line.items c.answer_line.new.stage
+    (stopped_gives c.in-Err-answer.stopped so (g.I.Source.ended c.next_line.new.input) (g.I.Source.left c.next_line.new.input) (g.O.Sink.held c.answer.new.output) t.0 c.next_line.new.line.items c.answer.new.stage
     t.1 (begins_line so (g.I.Source.ended c.next_line.new.input) t.0 c.next_line.new.self c.next_line.new.line.items t.2)
-    (done_line c.lines.stage c.answer_line.new.stage _ _ (g.O.Sink.held c.lines.output) (g.O.Sink.held c.answer_line.new.output) (Err c.in-Err-answer_line.stopped) c.as_slice.ensures.value c.in-Err-answer_line.ensures.done))
+    (done_line c.lines.stage c.answer.new.stage _ _ (g.O.Sink.held c.lines.output) (g.O.Sink.held c.answer.new.output) (Err c.in-Err-answer.stopped) c.deref.ensures.value c.in-Err-answer.ensures.done))
 
 pub returns-in-End-clause-run : goal.returns-in-End-clause-run
 returns-in-End-clause-run g c =
@@ -60,17 +60,17 @@ returns-in-NoMemory-clause-run g c =
     let t = c.in-NoMemory.ensures.takes in
     no_memory c.lines.invariant.so_far _ _ _ t.0 t.1 refl
 
-pub returns-in-Ok-answer_line-2-clause-run : goal.returns-in-Ok-answer_line-2-clause-run
-returns-in-Ok-answer_line-2-clause-run g c =
+pub returns-in-Ok-answer-2-clause-run : goal.returns-in-Ok-answer-2-clause-run
+returns-in-Ok-answer-2-clause-run g c =
     let t = c.in-Last.ensures.takes in
     done_last c.lines.invariant.so_far _ _ _ t.0 c.next_line.new.self c.next_line.new.line.items _ t.1 t.2
-    (rw c.as_slice-in-Last.ensures.value at c.in-Ok-answer_line-2.ensures.done)
+    (rw c.deref-in-Last.ensures.value at c.in-Ok-answer-2.ensures.done)
 
-pub returns-in-Err-answer_line-2-clause-run : goal.returns-in-Err-answer_line-2-clause-run
-returns-in-Err-answer_line-2-clause-run g c =
+pub returns-in-Err-answer-2-clause-run : goal.returns-in-Err-answer-2-clause-run
+returns-in-Err-answer-2-clause-run g c =
     let so = c.lines.invariant.so_far in
     let t = c.in-Last.ensures.takes in
-    rw c.status_of-in-Err-answer_line-2.ensures.status
-    (stopped_gives c.in-Err-answer_line-2.stopped so (g.I.Source.ended c.next_line.new.input) (g.I.Source.left c.next_line.new.input) (g.O.Sink.held c.answer_line-in-Last.new.output) t.0 c.next_line.new.line.items c.answer_line-in-Last.new.stage
+    rw c.status_of-in-Err-answer-2.ensures.status
+    (stopped_gives c.in-Err-answer-2.stopped so (g.I.Source.ended c.next_line.new.input) (g.I.Source.left c.next_line.new.input) (g.O.Sink.held c.answer-in-Last.new.output) t.0 c.next_line.new.line.items c.answer-in-Last.new.stage
     t.1 (begins_last so (g.I.Source.ended c.next_line.new.input) t.0 c.next_line.new.self c.next_line.new.line.items t.2)
-    (done_line c.lines.stage c.answer_line-in-Last.new.stage _ _ (g.O.Sink.held c.lines.output) (g.O.Sink.held c.answer_line-in-Last.new.output) (Err c.in-Err-answer_line-2.stopped) c.as_slice-in-Last.ensures.value c.in-Err-answer_line-2.ensures.done))
+    (done_line c.lines.stage c.answer-in-Last.new.stage _ _ (g.O.Sink.held c.lines.output) (g.O.Sink.held c.answer-in-Last.new.output) (Err c.in-Err-answer-2.stopped) c.deref-in-Last.ensures.value c.in-Err-answer-2.ensures.done))

@@ -1,7 +1,7 @@
 -- The line made an entry, whose answers were written as far as the result says.
 use Rattle.polkit_daemon.specs.Counted.{counted}
 use Rattle.polkit_daemon.proofs.Entered.{entry_done, last_counted, made_entry}
-use Rattle.polkit_daemon.proofs.replaying.answer_line.Goals as goal
+use Rattle.polkit_daemon.proofs.replaying.answer.Goals as goal
 
 pub returns-in-Ok-Entry-clause-counted : goal.returns-in-Ok-Entry-clause-counted
 returns-in-Ok-Entry-clause-counted g c =
