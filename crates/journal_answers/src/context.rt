@@ -25,7 +25,7 @@ pub struct Context<'a> {
     pub connections: &'a Connections,
     pub registrations: &'a Registrations,
     pub challenges: &'a Challenges,
-    /// The grants that nothing ended, by rising number.
+    /// The grants that nothing ended and that were not over at the last moment, by rising number.
     pub grants: &'a [GrantRow],
     /// How many grants were made.
     pub made: u64,
@@ -34,6 +34,7 @@ pub struct Context<'a> {
     pub loaded: &'a Loaded,
     /// How many loads there were.
     pub loads: u32,
+    /// It is not before the last moment of the history.
     pub moment: u64,
     pub salt: u128,
 }

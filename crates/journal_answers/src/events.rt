@@ -1,10 +1,11 @@
 // The outputs of each event.
-ghost use Rattle.std.specs.Prelude.{◌≡◌, ◌++◌, ◌+◌, ℕ, List, Some, None, OnOk, IfOk};
+ghost use Rattle.std.specs.Prelude.{◌≡◌, ◌≤◌, ◌++◌, ◌+◌, ℕ, List, Some, None, OnOk, IfOk};
 ghost use Rattle.authority_model.specs.declared.event.Event.TheVariants.{Load, Call as Called, Returned, AgentError, Depart};
 ghost use Rattle.authority_model.specs.declared.journal.Item.{Item};
 ghost use Rattle.authority_model.specs.declared.load.Loaded.{Loaded as TheLoaded};
 ghost use Rattle.authority_model.specs.Answers.{answers, loads as loads_after};
 ghost use Rattle.authority_model.specs.Items.{loaded_of};
+ghost use Rattle.authority_model.specs.Legal.{last_moment};
 ghost use Rattle.authority_model.specs.Small.{IsShort};
 ghost use Rattle.journal_state.specs.States.{IsStateOf};
 ghost use Rattle.journal_answers.specs.Contexts.{IsContextOf};
@@ -119,7 +120,7 @@ fn answer(
 }
 
 /// The outputs of an event of a caller, by the state of the history before it and the load in force,
-/// which is the last of so many. A load has its own outputs.
+/// which is the last of so many. Its moment is not before the last one. A load has its own outputs.
 pub fn outputs(
     alloc: Global,
     state: &State,
@@ -131,7 +132,7 @@ pub fn outputs(
     event: &Event,
 ) -> Result<OutputList, NoMemory>
     requires entries { IsShort in_force.now.policy.entries }
-    ensures outputs { (past : List Item) → IsStateOf past state.now → in_force.now ≡ loaded_of past → loads ≡ loads_after past → IfOk result (λ outputs. outputs ≡ answers past caller moment salt event.now None) }
+    ensures outputs { (past : List Item) → IsStateOf past state.now → in_force.now ≡ loaded_of past → loads ≡ loads_after past → last_moment past ≤ moment → IfOk result (λ outputs. outputs ≡ answers past caller moment salt event.now None) }
 {
     let Some(next_serial) = state.challenges.opened().checked_add(1) else {
         return Err(NoMemory);

@@ -1,5 +1,5 @@
 // Grants that are listed and revoked.
-ghost use Rattle.std.specs.Prelude.{◌≡◌, ◌++◌, ◌∷◌, ◌&&◌, [], List, OnOk, IfOk, bytes_eq, find, if◌then◌else◌};
+ghost use Rattle.std.specs.Prelude.{◌≡◌, ◌≤◌, ◌++◌, ◌∷◌, ◌&&◌, [], List, OnOk, IfOk, bytes_eq, find, if◌then◌else◌};
 ghost use Rattle.std.specs.List.{list_any};
 ghost use Rattle.std.specs.Option.{option_copied};
 ghost use Rattle.authority_model.specs.declared.journal.Item.{Item};
@@ -11,6 +11,8 @@ ghost use Rattle.authority_model.specs.Deciding.{is_live_at};
 ghost use Rattle.authority_model.specs.Facts.{facts_seen};
 ghost use Rattle.authority_model.specs.Grants.{kept};
 ghost use Rattle.authority_model.specs.Keys.{same_key, key_seen};
+ghost use Rattle.authority_model.specs.Legal.{last_moment};
+ghost use Rattle.journal_state.specs.Current.{current};
 ghost use Rattle.journal_answers.specs.Contexts.{IsContextOf};
 ghost use Rattle.journal_answers.specs.Told.{said};
 
@@ -52,7 +54,7 @@ fn live_grants(
     key: KeyRef,
     moment: u64,
 ) -> Result<GrantRowList, NoMemory>
-    ensures live { (past : List Item) → grants.now ≡ kept past → IfOk result (λ rows. rows ≡ live_grants_of past moment (key_seen key.entry)) }
+    ensures live { (past : List Item) → grants.now ≡ current past → last_moment past ≤ moment → IfOk result (λ rows. rows ≡ live_grants_of past moment (key_seen key.entry)) }
 {
     let mut rows = List::new(alloc);
     for grant in grants {

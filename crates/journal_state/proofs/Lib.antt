@@ -6,5 +6,8 @@ pub mod Ends
 pub mod Changes
 pub mod Counting
 pub mod Beginning
+pub mod Within
+pub mod Deciding
+pub mod Current
 pub mod Revoking
 pub mod Endings

@@ -5,4 +5,5 @@ pub mod Tables
 pub mod Counted
 pub mod Revoked
 pub mod Opening
+pub mod Current
 pub mod States

@@ -5,6 +5,7 @@ ghost use Rattle.authority_model.specs.Items.{loaded_of};
 ghost use Rattle.authority_model.specs.Small.{IsShort};
 ghost use Rattle.authority_model.specs.Challenges.{pending, at_agent};
 ghost use Rattle.authority_model.specs.Grants.{serial_returned, grant_row, made_by as made_by_return, granted as granted_after};
+ghost use Rattle.authority_model.specs.Legal.{last_moment};
 ghost use Rattle.journal_state.specs.States.{IsStateOf};
 
 use crate::challenges::Challenges;
@@ -70,7 +71,7 @@ pub fn granted(
 ) -> Result<Option<GrantRow>, NoMemory>
     requires entries { IsShort in_force.now.policy.entries }
     requires moment { entry.now.moment ≤ 2 ^ 62 }
-    ensures granted { (past : List Item) (i : Item) → IsStateOf past state.now → in_force.now ≡ loaded_of past → i.entry ≡ entry.now → IfOk result (λ made. made ≡ granted_after past i) }
+    ensures granted { (past : List Item) (i : Item) → IsStateOf past state.now → in_force.now ≡ loaded_of past → i.entry ≡ entry.now → last_moment past ≤ entry.now.moment → IfOk result (λ made. made ≡ granted_after past i) }
 {
     match returned(&state.challenges, entry) {
         Some(challenge) => made_by(&state.grants, in_force, entry.moment, challenge),

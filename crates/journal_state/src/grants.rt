@@ -1,7 +1,9 @@
-// The grants that nothing ended.
-ghost use Rattle.std.specs.Prelude.{◌≡◌, ◌+◌, ◌<◌, ◌≤◌, ◌++◌, [], not, false, List, filter, length, option_to_list, vec_len, vec_capacity, OnOk, OnErr};
+// The grants that nothing ended and that are not over.
+ghost use Rattle.std.specs.Prelude.{◌≡◌, ◌+◌, ◌<◌, ◌≤◌, ◌++◌, ◌&&◌, [], not, false, List, filter, length, option_to_list, vec_len, vec_capacity, OnOk, OnErr};
 ghost use Rattle.std.specs.Option.{option_map_or};
-ghost use Rattle.authority_model.specs.Grants.{kept, made};
+ghost use Rattle.authority_model.specs.Deciding.{is_live_at};
+ghost use Rattle.authority_model.specs.Grants.{made};
+ghost use Rattle.journal_state.specs.Current.{current};
 ghost use Rattle.journal_state.specs.Revoked.{revoked_by, ends_row};
 ghost use Rattle.journal_state.specs.Tables.{HasRoom};
 
@@ -13,7 +15,8 @@ use pk_types::NoMemory;
 use std::alloc::Global;
 use std::marker::Model;
 
-/// The grants that nothing ended, by rising number, and how many were ever made.
+/// The grants that nothing ended and that are not over at the last moment, by rising number, and how
+/// many were ever made.
 #[derive(Drop)]
 pub struct Grants {
     rows: Vec<GrantRow>,
@@ -47,26 +50,35 @@ fn ends(revocation: Option<Revocation>, ending: Ending, row: &GrantRow) -> bool
     is_revoked(revocation, row) || ending.is_of_key(&row.key)
 }
 
-/// Takes out the grants that end.
-fn take_out(rows: &mut Vec<GrantRow>, revocation: Option<Revocation>, ending: Ending)
-    ensures kept { rows.new.items ≡ filter (λ g. not (ends_row revocation.entry ending.entry g)) rows.old.items }
+/// Whether a grant is not over at a moment, and does not end.
+fn stays(moment: u64, revocation: Option<Revocation>, ending: Ending, row: &GrantRow) -> bool
+    ensures stays { result ≡ (is_live_at moment row.now && not (ends_row revocation.entry ending.entry row.now)) }
+{
+    moment < row.expires && !ends(revocation, ending, row)
+}
+
+/// Takes out the grants that are over at a moment, and those that end.
+fn take_out(rows: &mut Vec<GrantRow>, moment: u64, revocation: Option<Revocation>, ending: Ending)
+    ensures kept { rows.new.items ≡ filter (λ g. is_live_at moment g && not (ends_row revocation.entry ending.entry g)) rows.old.items }
     ensures room { vec_capacity rows.new ≡ vec_capacity rows.old }
     ensures bound { vec_len rows.new ≤ vec_len rows.old }
 {
-    rows.retain(|row| !ends(revocation, ending, row));
+    rows.retain(|row| stays(moment, revocation, ending, row));
 }
 
-/// Takes out the grants that end, and puts one that is made at the end.
+/// Takes out the grants that are over at a moment, and those that end, and puts one that is made at
+/// the end.
 fn change(
     rows: &mut Vec<GrantRow>,
+    moment: u64,
     revocation: Option<Revocation>,
     ending: Ending,
     made: Option<GrantRow>,
 )
     requires room { vec_len rows.old < vec_capacity rows.old }
-    ensures changed { rows.new.items ≡ filter (λ g. not (ends_row revocation.entry ending.entry g)) rows.old.items ++ option_to_list made }
+    ensures changed { rows.new.items ≡ filter (λ g. is_live_at moment g && not (ends_row revocation.entry ending.entry g)) rows.old.items ++ option_to_list made }
 {
-    take_out(rows, revocation, ending);
+    take_out(rows, moment, revocation, ending);
     if let Some(row) = made {
         match rows.push(row) {
             Ok(()) => {}
@@ -78,7 +90,7 @@ fn change(
 impl Grants {
     /// The grants of the empty history. It takes no memory.
     pub fn start(alloc: Global) -> Grants
-        ensures empty { result.items ≡ kept [] }
+        ensures empty { result.items ≡ current [] }
         ensures none { result.count ≡ made [] }
     {
         Grants {
@@ -87,7 +99,7 @@ impl Grants {
         }
     }
 
-    /// The grants, by rising number. Some of them may be over.
+    /// The grants, by rising number. None of them was over at the moment of the last change.
     pub fn as_slice(&self) -> &[GrantRow]
         ensures rows { result.now ≡ self.now.items }
     {
@@ -119,13 +131,20 @@ impl Grants {
         Ok(())
     }
 
-    /// Takes out the grants that end, and puts one that is made at the end. It takes no memory.
-    pub fn change(&mut self, revocation: Option<Revocation>, ending: Ending, made: Option<GrantRow>)
+    /// Takes out the grants that are over at a moment, and those that end, and puts one that is made
+    /// at the end. It takes no memory.
+    pub fn change(
+        &mut self,
+        moment: u64,
+        revocation: Option<Revocation>,
+        ending: Ending,
+        made: Option<GrantRow>,
+    )
         requires room { HasRoom self.old }
-        ensures changed { self.new.items ≡ filter (λ g. not (ends_row revocation.entry ending.entry g)) self.old.items ++ option_to_list made }
+        ensures changed { self.new.items ≡ filter (λ g. is_live_at moment g && not (ends_row revocation.entry ending.entry g)) self.old.items ++ option_to_list made }
         ensures counted { self.new.count ≡ self.old.count + length (option_to_list made) }
     {
         self.made = count_with(self.made, &made);
-        change(&mut self.rows, revocation, ending, made);
+        change(&mut self.rows, moment, revocation, ending, made);
     }
 }

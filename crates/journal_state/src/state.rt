@@ -6,6 +6,7 @@ ghost use Rattle.authority_model.specs.Items.{loaded_of, world_of};
 ghost use Rattle.authority_model.specs.Small.{IsShort};
 ghost use Rattle.authority_model.specs.Challenges.{opened as opened_by};
 ghost use Rattle.authority_model.specs.Grants.{granted as granted_by};
+ghost use Rattle.authority_model.specs.Legal.{last_moment};
 ghost use Rattle.journal_state.specs.States.{IsStateOf};
 ghost use Rattle.journal_state.specs.Tables.{HasRoom};
 
@@ -68,7 +69,7 @@ impl State {
     }
 
     /// Carries the state on by one item of this entry and this load, by the load in force before it.
-    /// The entry's place in the journal is counted from 0.
+    /// The entry's place in the journal is counted from 0, and its moment is not before the last one.
     ///
     /// A refusal leaves the state as it was.
     pub fn after(
@@ -80,7 +81,7 @@ impl State {
     ) -> Result<(), NoMemory>
         requires entries { IsShort in_force.now.policy.entries }
         requires moment { entry.now.moment ≤ 2 ^ 62 }
-        ensures ok { (past : List Item) → in_force.now ≡ loaded_of past → place ≡ length past → IsStateOf past self.old → OnOk result (IsStateOf (record { entry = entry.now; loaded = option_copied loaded.entry } ∷ past) self.new) }
+        ensures ok { (past : List Item) → in_force.now ≡ loaded_of past → place ≡ length past → last_moment past ≤ entry.now.moment → IsStateOf past self.old → OnOk result (IsStateOf (record { entry = entry.now; loaded = option_copied loaded.entry } ∷ past) self.new) }
         ensures err { OnErr result ((past : List Item) → IsStateOf past self.old → IsStateOf past self.new) }
     {
         let opened = opened(self, in_force, place, entry)?;
@@ -98,7 +99,7 @@ impl State {
         opened: Option<Pending>,
         granted: Option<GrantRow>,
     ) -> Result<(), NoMemory>
-        ensures ok { (past : List Item) → world.now ≡ world_of past → opened ≡ opened_by past (record { entry = entry.now; loaded = option_copied loaded.entry }) → granted ≡ granted_by past (record { entry = entry.now; loaded = option_copied loaded.entry }) → IsStateOf past self.old → OnOk result (IsStateOf (record { entry = entry.now; loaded = option_copied loaded.entry } ∷ past) self.new) }
+        ensures ok { (past : List Item) → world.now ≡ world_of past → last_moment past ≤ entry.now.moment → opened ≡ opened_by past (record { entry = entry.now; loaded = option_copied loaded.entry }) → granted ≡ granted_by past (record { entry = entry.now; loaded = option_copied loaded.entry }) → IsStateOf past self.old → OnOk result (IsStateOf (record { entry = entry.now; loaded = option_copied loaded.entry } ∷ past) self.new) }
         ensures err { OnErr result ((past : List Item) → IsStateOf past self.old → IsStateOf past self.new) }
     {
         let made = self.registrations.made(&self.connections, world, entry)?;
@@ -115,7 +116,8 @@ impl State {
         self.sent.add(entry.outputs.as_slice());
         self.registrations.change(ending, made);
         self.challenges.change(entry, ending, response, opened);
-        self.grants.change(revocation, ending, granted);
+        self.grants
+            .change(entry.moment, revocation, ending, granted);
         Ok(())
     }
 }
