@@ -1,8 +1,6 @@
 -- What an authority keeps.
-use Rattle.std.specs.Prelude.{ℕ, ◌≡◌, ◌≤◌, ◌∷◌, List, Option, length}
-use Rattle.authority_model.specs.declared.journal.Entry.{Entry}
+use Rattle.std.specs.Prelude.{ℕ, ◌≡◌, ◌≤◌, length}
 use Rattle.authority_model.specs.declared.journal.History.{History}
-use Rattle.authority_model.specs.declared.journal.Item.{Item}
 use Rattle.authority_model.specs.declared.load.Loaded.{Loaded}
 use Rattle.authority_model.specs.Items.{items_of, empty_loaded, loaded_of}
 use Rattle.authority_model.specs.Legal.{IsLegal, last_moment}

@@ -5,6 +5,7 @@ ghost use Rattle.authority_model.specs.declared.journal.History.{History as TheH
 ghost use Rattle.authority_model.specs.declared.journal.Item.{Item};
 ghost use Rattle.authority_model.specs.Answers.{loads as loads_after};
 ghost use Rattle.authority_model.specs.Items.{items_of, loaded_of, empty_loaded};
+ghost use Rattle.authority_model.specs.Legal.{last_moment};
 ghost use Rattle.authority_model.specs.Small.{IsShort};
 ghost use Rattle.journal_state.specs.States.{IsStateOf};
 
@@ -35,7 +36,7 @@ pub fn enter(
     requires rules { IsShort in_force.now.policy.entries }
     requires moment { entry.moment ≤ 2 ^ 62 }
     ensures ok { OnOk result (entries.new ≡ entries.old ++ entry ∷ []) }
-    ensures state { (past : List Item) → in_force.now ≡ loaded_of past → length entries.old ≡ length past → IsStateOf past state.old → OnOk result (IsStateOf (record { entry = entry; loaded = option_copied loaded.entry } ∷ past) state.new) }
+    ensures state { (past : List Item) → in_force.now ≡ loaded_of past → length entries.old ≡ length past → last_moment past ≤ entry.moment → IsStateOf past state.old → OnOk result (IsStateOf (record { entry = entry; loaded = option_copied loaded.entry } ∷ past) state.new) }
     ensures err { OnErr result (entries.new ≡ entries.old) }
     ensures same { OnErr result ((past : List Item) → IsStateOf past state.old → IsStateOf past state.new) }
     ensures back { IfErr result (λ back. back ≡ entry) }
@@ -80,7 +81,7 @@ pub fn enter_load(
     requires moment { entry.moment ≤ 2 ^ 62 }
     ensures entries { OnOk result (history.new.entries ≡ history.old.entries ++ entry ∷ []) }
     ensures loads { OnOk result (history.new.loads ≡ history.old.loads ++ loaded ∷ []) }
-    ensures state { IsStateOf (items_of history.old) state.old → OnOk result (IsStateOf (record { entry = entry; loaded = Some loaded } ∷ items_of history.old) state.new) }
+    ensures state { last_moment (items_of history.old) ≤ entry.moment → IsStateOf (items_of history.old) state.old → OnOk result (IsStateOf (record { entry = entry; loaded = Some loaded } ∷ items_of history.old) state.new) }
     ensures err { OnErr result (history.new ≡ history.old) }
     ensures same { IsStateOf (items_of history.old) state.old → OnErr result (IsStateOf (items_of history.old) state.new) }
     ensures back { IfErr result (λ back. back ≡ loaded) }

@@ -1,5 +1,4 @@
-use Rattle.std.proofs.Common.{◌≡◌, sym, ◌∙◌, ap, length, Some, None}
-use Rattle.std.specs.Prelude.{slice_get, ◌-◌}
+use Rattle.std.proofs.Common.{sym, ◌∙◌, ap}
 use Rattle.authority_model.specs.Items.{empty_loaded}
 use Rattle.authority_model.proofs.LastLoad.{last_or, loaded_last, last_or-last, last_or-none}
 use Rattle.authority_core.proofs.entering.load_in_force.Goals as goal
