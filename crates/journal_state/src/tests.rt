@@ -1,6 +1,6 @@
 // One history: a check is asked, answered and granted, and the grant is revoked. What is wanted is said
 // by polkit(8).
-ghost use Rattle.std.specs.Prelude.{IfOk};
+ghost use Rattle.std.specs.Prelude.{◌≤◌, ◌^◌, IfOk};
 ghost use Rattle.authority_model.specs.Small.{IsShort};
 
 use crate::State;
@@ -120,13 +120,20 @@ fn event(alloc: Global, place: usize) -> Result<Event, Fail> {
     }
 }
 
-/// Carries a state on by the event at a place, at second 10.
-fn step(alloc: Global, state: &mut State, loaded: &Loaded, place: usize) -> Result<(), Fail>
-    requires { IsShort loaded.now.policy.entries }
+/// Carries a state on by the event at a place, at this moment.
+fn step(
+    alloc: Global,
+    state: &mut State,
+    loaded: &Loaded,
+    place: usize,
+    moment: u64,
+) -> Result<(), Fail>
+    requires entries { IsShort loaded.now.policy.entries }
+    requires moment { moment ≤ 2 ^ 62 }
 {
     let entry = Entry {
         caller: if place == 4 || place == 5 { 2 } else { 1 },
-        moment: 10,
+        moment,
         salt: 255,
         event: event(alloc, place)?,
         outputs: if place == 3 {
@@ -175,8 +182,29 @@ fn answered_check_makes_a_grant(rt: HostRuntime) -> Result<(), Fail> {
     let loaded = load(alloc)?;
     let mut state = State::start(alloc);
     for (place, row) in ROWS.iter().enumerate() {
-        step(alloc, &mut state, &loaded, place)?;
+        step(alloc, &mut state, &loaded, place, 10)?;
         assert_eq!(rt; seen(alloc, &state)?, *row);
     }
+    Ok(())
+}
+
+/// How many grants there are after an eighth event at this moment, where one was made at second 10.
+fn grants_at(alloc: Global, moment: u64) -> Result<usize, Fail>
+    requires { moment ≤ 2 ^ 62 }
+{
+    let loaded = load(alloc)?;
+    let mut state = State::start(alloc);
+    for place in 0..7 {
+        step(alloc, &mut state, &loaded, place, 10)?;
+    }
+    step(alloc, &mut state, &loaded, 8, moment)?;
+    Ok(state.grants.as_slice().len())
+}
+
+#[test]
+fn grant_is_not_held_once_it_is_over(rt: HostRuntime) -> Result<(), Fail> {
+    let alloc = rt.alloc();
+    assert_eq!(rt; grants_at(alloc, 309)?, 1);
+    assert_eq!(rt; grants_at(alloc, 310)?, 0);
     Ok(())
 }
