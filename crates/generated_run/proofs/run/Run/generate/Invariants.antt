@@ -1,0 +1,8 @@
+-- The checks so far.
+use Rattle.std.specs.Prelude.{[]}
+use Rattle.generated_run.specs.Run.{generated}
+use Rattle.generated_run.specs.Tallies.{Has}
+use Rattle.generated_run.proofs.run.Run.generate.Given as goal
+
+abbrev pub invariant-loop-k : goal.invariant-loop-k
+invariant-loop-k l = Has [] l.fn.self → Has (generated l.k) l.self

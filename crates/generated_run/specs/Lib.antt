@@ -1,0 +1,4 @@
+pub mod Setup
+pub mod Run
+pub mod Summaries
+pub mod Tallies

@@ -1,0 +1,67 @@
+-- The setup of a generated run: root, eight users with a process each, and an action for each implicit value.
+use Rattle.std.specs.Prelude.{ℕ, ◌+◌, zero, suc, List, [], ◌∷◌, ◌++◌, None, codes, decimal, unwrap_or}
+use Rattle.pk_types.specs.declared.values.Implicit.{Implicit}
+use Rattle.pk_types.specs.Values.{implicit_of_code}
+use Rattle.authority_model.specs.declared.load.Loaded.{Loaded}
+use Rattle.authority_model.specs.declared.policy.Action.{Action}
+use Rattle.authority_model.specs.declared.policy.Policy.{Policy}
+use Rattle.authority_model.specs.declared.world.Process.{Process}
+use Rattle.authority_model.specs.declared.world.User.{User}
+use Rattle.authority_model.specs.declared.world.World.{World}
+use Rattle.authority_model.specs.Words.{Bytes}
+
+-- what the numbers below a bound give, in their order
+unfoldable pub each_below : {A : Type 0} → (ℕ → A) → ℕ → List A
+each_below f zero = []
+each_below f (suc n) = each_below f n ++ f n ∷ []
+
+-- a user of this name and no group
+abbrev pub user_named : ℕ → Bytes → User
+user_named uid name = record { uid = uid; name = name; label = codes "unix-user:" ++ name; gids = [] }
+
+-- the user root
+abbrev pub root : User
+root = user_named 0 (codes "root")
+
+-- the i-th user, whose name is `u` and i
+abbrev pub user : ℕ → User
+user i = user_named (1000 + i) (codes "u" ++ decimal i)
+
+-- its process
+abbrev pub process : ℕ → Process
+process i = record { pid = 100 + i; start = 1; uid = 1000 + i; session = None }
+
+-- the id of the i-th action: `l.` and i
+abbrev pub action_id : ℕ → Bytes
+action_id i = codes "l." ++ decimal i
+
+-- an action with one value for each subject, and no texts and annotations
+abbrev pub action_valued : Bytes → Implicit → Action
+action_valued id value = record {
+  id = id;
+  descriptions = [];
+  messages = [];
+  vendor = [];
+  vendor_url = [];
+  icon = [];
+  any = value;
+  inactive = value;
+  active = value;
+  annotations = [];
+}
+
+-- the i-th action, whose value has the code i
+abbrev pub action : ℕ → Action
+action i = action_valued (action_id i) (unwrap_or (implicit_of_code i) Implicit.No)
+
+-- the policy: six actions, and no rule
+abbrev pub policy : Policy
+policy = record { actions = each_below action 6; entries = []; admins = [] }
+
+-- the world: root and eight users, and a process of each of the eight
+abbrev pub world : World
+world = record { users = root ∷ each_below user 8; groups = []; sessions = []; processes = each_below process 8 }
+
+-- the setup
+abbrev pub setup : Loaded
+setup = record { policy = policy; world = world; faults = [] }
