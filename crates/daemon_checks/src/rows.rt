@@ -154,7 +154,7 @@ fn long_lines_are_refused(rt: HostRuntime) -> Result<(), Fail> {
 
 #[test]
 fn other_words_are_refused(rt: HostRuntime) -> Result<(), Fail> {
-    let commands: [&[&str]; 8] = [
+    let commands: [&[&str]; 15] = [
         &[],
         &[""],
         &["Replay"],
@@ -162,7 +162,14 @@ fn other_words_are_refused(rt: HostRuntime) -> Result<(), Fail> {
         &["replay", "replay"],
         &["replay", "--entries", "3"],
         &["--help"],
-        &["load", "6"],
+        &["load"],
+        &["load", ""],
+        &["load", "0"],
+        &["load", "06"],
+        &["load", "+6"],
+        &["load", "100001"],
+        &["load", "6", "6"],
+        &["Load", "6"],
     ];
     for words in commands {
         let ended = run(&rt, rt.alloc(), words, CHECKS.as_bytes(), SMOOTH)?;

@@ -1,6 +1,6 @@
 -- What the newest item adds to the text and to the counts.
 use Rattle.std.proofs.Common.{◌≡◌, ◌++◌, [], ◌∷◌, ◌+◌, ◌==◌, ℕ, List, Bool, true, false, Option, Result, Ok, Err, OnOk, if◌then◌else◌, refl, sym, ◌∙◌, ap, subst, append-nil, inl, inr, arith}
-use Rattle.pk_outside.specs.Streams.{Got, GotFront}
+use Rattle.pk_outside.specs.Streams.{GotFront}
 use Rattle.authority_model.specs.declared.journal.Item.{Item}
 use Rattle.authority_model.specs.declared.message.Output.{Output}
 use Rattle.authority_model.specs.Items.{sent, count_to}

@@ -1,6 +1,6 @@
 -- What a replay knows at each turn, and at each of its exits.
-use Rattle.std.proofs.Common.{◌≡◌, ◌++◌, [], ◌∷◌, ◌+◌, List, ℕ, Bool, Option, None, Some, Result, Ok, Err, refl, sym, ◌∙◌, ap, subst, length, arith, append_assoc, append-nil, length-append, inl, inr}
-use Rattle.pk_outside.specs.Streams.{Gave, Got, GotFront}
+use Rattle.std.proofs.Common.{◌≡◌, ◌++◌, [], ◌∷◌, ◌+◌, List, ℕ, Bool, Option, None, Result, Err, refl, sym, ◌∙◌, ap, subst, length, arith, append_assoc, append-nil, length-append, inl, inr}
+use Rattle.pk_outside.specs.Streams.{Gave, Got}
 use Rattle.pk_outside.proofs.Written.{Gave-none, Gave-more, Got-none, Got-more}
 use Rattle.byte_pieces.specs.Pieces.{lines_of}
 use Rattle.byte_pieces.proofs.Cuts.{lines_of-cut, lines_of-last}
@@ -9,16 +9,15 @@ use Rattle.line_reader.specs.declared.reader.LineGot.TheVariants as line_got
 use Rattle.authority_model.specs.declared.journal.Item.{Item}
 use Rattle.authority_model.specs.Legal.{Legal}
 use Rattle.authority_laws.proofs.Tracing.{access}
-use Rattle.scenario_text.specs.declared.fault.LineKind.{LineKind}
 use Rattle.scenario_text.specs.declared.fault.LineKind.TheVariants as kind
-use Rattle.scenario_run.specs.Scene.{Scene, start, run_line}
+use Rattle.scenario_run.specs.Scene.{Scene, start}
 use Rattle.scenario_run.specs.Text.{text_of}
 use Rattle.polkit_daemon.specs.declared.replaying.Stopped.{Stopped}
 use Rattle.polkit_daemon.specs.declared.replaying.Stopped.TheVariants as stopped
 use Rattle.polkit_daemon.specs.declared.status.Status.{Status}
 use Rattle.polkit_daemon.specs.declared.status.Status.TheVariants as status
 use Rattle.polkit_daemon.specs.Lines.{IsCut, IsAnswered, LineDone, status_of}
-use Rattle.polkit_daemon.specs.Replay.{Ran, run, replayed, history_of, Whatever, IsBegun, IsFront, HasFault, Replayed, Replays}
+use Rattle.polkit_daemon.specs.Replay.{run, replayed, history_of, Whatever, IsBegun, IsFront, HasFault, Replayed, Replays}
 use Rattle.polkit_daemon.proofs.Runs.{Clean, joined, ran_to, run-append, run-one, lines_of-joined, joined-one, clean_one, history_at, fault_at, extends_at, next_extends, has_fault, Begins, whatever_map, too_long_at}
 
 -- At each turn these bytes were read, and of them the lines so far ran without a fault and were answered.

@@ -4,12 +4,11 @@ use Rattle.std.proofs.lemmas.Grind.{flat_map-append}
 use Rattle.std.proofs.lemmas.Bool.{ne_eqb}
 use Rattle.std.proofs.lemmas.Bool.Decides.{nat_tests}
 use Rattle.byte_pieces.specs.Pieces.{Lacks, lines_of, onto_first}
-use Rattle.byte_pieces.proofs.Cuts.{lines_of-cut, lines_of-last}
-use Rattle.authority_model.specs.declared.journal.Item.{Item}
+use Rattle.byte_pieces.proofs.Cuts.{lines_of-cut}
 use Rattle.scenario_text.specs.declared.fault.LineKind.{LineKind}
 use Rattle.scenario_text.specs.declared.fault.LineKind.TheVariants as kind
 use Rattle.scenario_text.specs.Lines.{step_of}
-use Rattle.scenario_run.specs.Scene.{Scene, start, run_line}
+use Rattle.scenario_run.specs.Scene.{Scene, run_line}
 use Rattle.polkit_daemon.specs.Replay.{Ran, after_line, run, replayed, history_of, fault_of, Whatever, Extends, HasFault}
 use Rattle.polkit_daemon.proofs.Grows.{run_extends}
 

@@ -1,5 +1,7 @@
 pub mod Codes
 pub mod Commands
 pub mod Counted
+pub mod Generate
 pub mod Lines
+pub mod Playing
 pub mod Replay

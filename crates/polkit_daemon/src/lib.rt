@@ -3,6 +3,7 @@
 
 mod command;
 mod counts;
+mod generating;
 mod refused;
 mod replaying;
 mod status;
@@ -11,6 +12,7 @@ mod written;
 
 pub use command::Command;
 pub use dbus_values::FaultKind;
+pub use generating::load_run;
 pub use refused::{LoadLimit, LoadRefused, TableFault};
 pub use replaying::replay;
 pub use scenario_text::LineKind;

@@ -1,10 +1,11 @@
 // The command that replays a scenario.
-ghost use Rattle.std.specs.Prelude.{◌≡◌, ◌≤◌, IsNone, OnOk, IsErrOf};
+ghost use Rattle.std.specs.Prelude.{◌≡◌, ◌≤◌, IsNone, IfOk, OnOk, IsErrOf};
 ghost use Rattle.pk_outside.specs.Causes.{Rose};
 ghost use Rattle.authority_model.specs.Items.{sent};
 ghost use Rattle.authority_model.specs.Legal.{Legal};
 ghost use Rattle.polkit_daemon.specs.Counted.{counted};
 ghost use Rattle.polkit_daemon.specs.Lines.{LastWritten, LineDone, stop_of, status_of};
+ghost use Rattle.polkit_daemon.specs.Playing.{Begins};
 ghost use Rattle.polkit_daemon.specs.Replay.{Replays};
 
 use crate::counts::Counts;
@@ -92,6 +93,77 @@ fn answer<O: Sink>(
     }
 }
 
+/// A replay under way.
+#[derive(Drop)]
+struct Playback {
+    alloc: Global,
+    reader: LineReader,
+    stage: Stage,
+    counts: Counts,
+    line: Vec<u8>,
+    /// The number of the next line, counted from 1.
+    number: u64,
+}
+
+impl Playback {
+    /// A replay that has read nothing.
+    fn start(alloc: Global, limits: Limits) -> Result<Playback, NoMemory>
+        requires limits { (limits.entries ≤ 1048576) × (limits.bytes ≤ 536870912) }
+        ensures begins { IfOk result Begins }
+    {
+        let reader = LineReader::new(alloc)?;
+        let stage = Stage::start(alloc, limits)?;
+        Ok(Playback {
+            alloc,
+            reader,
+            stage,
+            counts: Counts::new(alloc),
+            line: Vec::new(alloc),
+            number: 1,
+        })
+    }
+
+    /// Runs the lines of the input, until it ends or the first fault comes.
+    fn run<I: Source, O: Sink>(&mut self, input: &mut I, output: &mut O) -> Status
+        requires begins { Begins self.old }
+        ensures run { Replays (I.left input.old) (I.left input.new) (I.ended input.new) (O.held output.old) (O.held output.new) result }
+        ensures read { result ≡ Status.ReadFault → Rose (I.faults input.old) (I.faults input.new) }
+        ensures write { result ≡ Status.WriteFault → Rose (O.faults output.old) (O.faults output.new) }
+    {
+        'lines: loop {
+            let number = self.number;
+            match self.reader.next_line(input, &mut self.line, MAX_LINE) {
+                LineGot::Line => match answer(
+                    self.alloc,
+                    &mut self.stage,
+                    &mut self.counts,
+                    &self.line,
+                    number,
+                    output,
+                ) {
+                    Ok(()) => self.number = number + 1,
+                    Err(stopped) => return status_of(stopped, number),
+                },
+                LineGot::Last => match answer(
+                    self.alloc,
+                    &mut self.stage,
+                    &mut self.counts,
+                    &self.line,
+                    number,
+                    output,
+                ) {
+                    Ok(()) => return Status::Done,
+                    Err(stopped) => return status_of(stopped, number),
+                },
+                LineGot::End => return Status::Done,
+                LineGot::TooLong => return status_of(Stopped::Fault(LineKind::TooLong), number),
+                LineGot::ReadFault => return Status::ReadFault,
+                LineGot::NoMemory => return Status::NoMemory,
+            }
+        }
+    }
+}
+
 /// Runs the scenario that the input gives, and writes its answer lines.
 ///
 /// The lines are run one after another, until the input ends or the first fault comes; what was
@@ -120,31 +192,8 @@ pub fn replay<T: Tree, I: Source, O: Sink>(
     ensures read { result ≡ Status.ReadFault → Rose (I.faults input.old) (I.faults input.new) }
     ensures write { result ≡ Status.WriteFault → Rose (O.faults output.old) (O.faults output.new) }
 {
-    let mut reader = match LineReader::new(alloc) {
-        Ok(reader) => reader,
-        Err(NoMemory) => return Status::NoMemory,
-    };
-    let mut stage = match Stage::start(alloc, limits) {
-        Ok(stage) => stage,
-        Err(NoMemory) => return Status::NoMemory,
-    };
-    let mut counts = Counts::new(alloc);
-    let mut line = Vec::new(alloc);
-    let mut number = 1u64;
-    'lines: loop {
-        match reader.next_line(input, &mut line, MAX_LINE) {
-            LineGot::Line => match answer(alloc, &mut stage, &mut counts, &line, number, output) {
-                Ok(()) => number += 1,
-                Err(stopped) => return status_of(stopped, number),
-            },
-            LineGot::Last => match answer(alloc, &mut stage, &mut counts, &line, number, output) {
-                Ok(()) => return Status::Done,
-                Err(stopped) => return status_of(stopped, number),
-            },
-            LineGot::End => return Status::Done,
-            LineGot::TooLong => return status_of(Stopped::Fault(LineKind::TooLong), number),
-            LineGot::ReadFault => return Status::ReadFault,
-            LineGot::NoMemory => return Status::NoMemory,
-        }
+    match Playback::start(alloc, limits) {
+        Ok(mut playback) => playback.run(input, output),
+        Err(NoMemory) => Status::NoMemory,
     }
 }

@@ -1,10 +1,12 @@
 // The top call: the command that the words name.
-ghost use Rattle.std.specs.Prelude.{◌≡◌, ◌↔◌, None, Some};
+ghost use Rattle.std.specs.Prelude.{◌≡◌, ◌↔◌, None, Some, ℕ};
 ghost use Rattle.pk_outside.specs.Causes.{Rose};
 ghost use Rattle.polkit_daemon.specs.Commands.{command_of};
+ghost use Rattle.polkit_daemon.specs.Generate.{Generates};
 ghost use Rattle.polkit_daemon.specs.Replay.{Replays};
 
 use crate::command::Command;
+use crate::generating::load_run;
 use crate::replaying::replay;
 use crate::status::Status;
 use authority_core::Limits;
@@ -43,12 +45,18 @@ pub fn polkitd<R: Threads + Wait + Sync, T: Tree, N: Station, I: Source, O: Sink
     ensures replay { command_of words.now ≡ Some Command.Replay →
         Replays (I.left input.old) (I.left input.new) (I.ended input.new) (O.held output.old) (O.held output.new) result }
 
+    // A generated run writes its one line, as far as the status says, and reads nothing.
+    ensures load { (checks : ℕ) → command_of words.now ≡ Some (Command.Load checks) →
+        Generates checks (O.held output.old) (O.held output.new) result }
+    ensures load_unread { (checks : ℕ) → command_of words.now ≡ Some (Command.Load checks) → I.left input.new ≡ I.left input.old }
+
     // A fault of the outside is told only where the object counted it.
     ensures read { result ≡ Status.ReadFault → Rose (I.faults input.old) (I.faults input.new) }
     ensures write { result ≡ Status.WriteFault → Rose (O.faults output.old) (O.faults output.new) }
 {
     match Command::read(words) {
         Some(Command::Replay) => replay(alloc, None, GREATEST, tree, input, output),
+        Some(Command::Load { checks }) => load_run(alloc, checks, output),
         None => Status::Usage,
     }
 }

@@ -3,16 +3,16 @@ use Rattle.std.proofs.Common.{◌≡◌, ◌≤◌, ◌+◌, ◌^◌, length}
 use Rattle.authority_model.specs.Items.{sent}
 use Rattle.polkit_daemon.specs.Counted.{counted}
 use Rattle.polkit_daemon.proofs.Exits.{SoFar}
-use Rattle.polkit_daemon.proofs.replaying.replay.Given as goal
+use Rattle.polkit_daemon.proofs.replaying.Playback.run.Given as goal
 
 abbrev pub invariant-lines : goal.invariant-lines
 invariant-lines g l = record {
-  so_far : SoFar (g.I.Source.left l.fn.input) (g.I.Source.left l.input) l.reader l.stage l.number (g.O.Sink.held l.fn.output) (g.O.Sink.held l.output);
-  counted : counted l.counts ≡ sent l.stage.past;
+  so_far : SoFar (g.I.Source.left l.fn.input) (g.I.Source.left l.input) l.self.reader l.self.stage l.self.number (g.O.Sink.held l.fn.output) (g.O.Sink.held l.output);
+  counted : counted l.self.counts ≡ sent l.self.stage.past;
   read : g.I.Source.faults l.fn.input ≤ g.I.Source.faults l.input;
   wrote : g.O.Sink.faults l.fn.output ≤ g.O.Sink.faults l.output;
-  count : l.number + (g.I.Source.budget l.input + length l.reader) ≤ 2 ^ 62 + 1;
+  count : l.self.number + (g.I.Source.budget l.input + length l.self.reader) ≤ 2 ^ 62 + 1;
 }
 
 abbrev pub decreases-lines : goal.decreases-lines
-decreases-lines g l = g.I.Source.budget l.input + length l.reader
+decreases-lines g l = g.I.Source.budget l.input + length l.self.reader

@@ -1,0 +1,111 @@
+//! The program `polkitd` over its words and its standard streams.
+//!
+//! What its command does is proved of the top call of `polkit_daemon`; this edge passes the words
+//! and the streams on, and tells how it ended.
+#![tactic(auto)]
+
+use pk_outside::{ListStation, ListTree, ReadSource, WriteSink};
+use pk_types::{List, Text, TextFault, TextList};
+use polkit_daemon::{Status, polkitd};
+use std::process::ExitCode;
+use std::rt::Env;
+use std::sync::Wait;
+use std::thread::Threads;
+use std::{env, io};
+
+const HELP: &str = "usage: polkitd replay
+       polkitd load N
+
+replay  runs the scenario on standard input, and writes its answers to standard output
+load N  runs N generated checks, 1 to 100000, and writes what they come to to standard output
+
+Options, each alone:
+  --help     shows this text
+  --version  shows the version
+
+Exit status: 0 done, 1 usage, 3 read fault, 4 write fault, 6 a line that is not in the grammar,
+70 out of memory. Any but 0 is told by one line on standard error.
+";
+
+const VERSION: &str = "polkitd 0.105.0\n";
+
+/// How words that could not be read end the program.
+fn unread(fault: io::Error) -> Status {
+    match fault.kind() {
+        io::ErrorKind::OutOfMemory => Status::NoMemory,
+        _ => Status::Usage,
+    }
+}
+
+/// How a word that is no text ends the program.
+fn no_text(fault: TextFault) -> Status {
+    match fault {
+        TextFault::TooLong { .. } | TextFault::BadByte { .. } => Status::Usage,
+        TextFault::NoMemory => Status::NoMemory,
+    }
+}
+
+/// The words behind the program's name, or how their want ends the program.
+fn words<R: Env + AllocGlobal>(rt: &R) -> Result<TextList, Status> {
+    let alloc = rt.alloc();
+    let mut words = List::new(alloc);
+    for word in env::args(rt).map_err(unread)?.skip(1) {
+        let word = Text::try_from_bytes(alloc, word.as_bytes()).map_err(no_text)?;
+        words.try_push(word).map_err(|_| Status::NoMemory)?;
+    }
+    Ok(words)
+}
+
+/// The text that the only word asks for, if it does.
+fn told_by(words: &[Text]) -> Option<&'static str> {
+    match words {
+        [word] if word.bytes() == b"--help".as_slice() => Some(HELP),
+        [word] if word.bytes() == b"--version".as_slice() => Some(VERSION),
+        _ => None,
+    }
+}
+
+/// Does what the words ask for.
+fn command<R: Threads + Wait + Sync + Env + Input + Print + AllocGlobal>(rt: &R) -> Status
+where
+    R::Reader: Send,
+{
+    let words = match words(rt) {
+        Ok(words) => words,
+        Err(status) => return status,
+    };
+    if let Some(text) = told_by(words.as_slice()) {
+        return match print!(rt; "{text}") {
+            Ok(()) => Status::Done,
+            Err(_) => Status::WriteFault,
+        };
+    }
+    let mut tree = ListTree::new();
+    let mut station = ListStation::new();
+    let mut input = ReadSource::new(rt.reader());
+    let mut output = WriteSink::new(io::writer(rt));
+    polkitd(
+        rt,
+        rt.alloc(),
+        words.as_slice(),
+        &mut tree,
+        &mut station,
+        &mut input,
+        &mut output,
+    )
+}
+
+/// Runs the program, and answers its exit code. A status other than `Done` is told by one line on
+/// standard error.
+pub fn run<R: Threads + Wait + Sync + Env + Input + Print + Eprint + AllocGlobal>(
+    rt: &R,
+) -> ExitCode
+where
+    R::Reader: Send,
+{
+    let status = command(rt);
+    if status.code() != 0 {
+        let _ = eprintln!(rt; "{status}");
+    }
+    ExitCode::from(status.code())
+}

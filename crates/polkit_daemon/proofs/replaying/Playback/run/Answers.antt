@@ -1,0 +1,70 @@
+-- What is known at each turn and at each exit.
+use Rattle.std.proofs.Common.{arith, refl, ap, length, Err}
+use Rattle.polkit_daemon.proofs.Exits.{at_first, go_on, stopped_gives, begins_line, begins_last, done_end, done_last, too_long, cut_off, no_memory, done_line}
+use Rattle.polkit_daemon.proofs.replaying.Playback.run.Goals as goal
+
+pub lines-init : goal.lines-init
+lines-init g c =
+    let laws = g.met.I.Source g.world.𝓛 g.world.𝓜 g.world.𝓡 ((λ s x. x), (λ x. x), (λ x. x), λ x. x) in record {
+      so_far = rw c.requires.begins.number (at_first _ _ _ _ c.requires.begins.reader c.requires.begins.stage);
+      counted = rw c.requires.begins.stage c.requires.begins.counts;
+      read = omega arith;
+      wrote = omega arith;
+      count = omega (arith, laws.budget_bound c.args.input.now, ap length c.requires.begins.reader, c.requires.begins.number);
+    }
+
+pub lines-preserved : goal.lines-preserved
+lines-preserved g c = record {
+  so_far =
+      let t = c.in-Line.ensures.takes in
+      go_on c.lines.invariant.so_far (g.I.Source.ended c.next_line.new.input) _ _ t.0 _ c.next_line.new.line.items _ t.1 t.2 (rw c.deref.ensures.value at c.in-Ok.ensures.done);
+  counted = c.in-Ok.ensures.counted;
+  read = omega (arith, c.lines.invariant.read, c.next_line.ensures.later);
+  wrote = omega (arith, c.lines.invariant.wrote, c.answer.ensures.later);
+  count = omega (arith, c.lines.invariant.count, c.in-Line.ensures.fewer refl);
+}
+
+pub returns-in-Err-clause-run : goal.returns-in-Err-clause-run
+returns-in-Err-clause-run g c =
+    let so = c.lines.invariant.so_far in
+    let t = c.in-Line.ensures.takes in
+    rw c.status_of.ensures.status
+    (stopped_gives c.in-Err.stopped so (g.I.Source.ended c.next_line.new.input) (g.I.Source.left c.next_line.new.input) (g.O.Sink.held c.answer.new.output) t.0 c.next_line.new.line.items c.answer.new.stage
+    t.1 (begins_line so (g.I.Source.ended c.next_line.new.input) t.0 c.next_line.new.self c.next_line.new.line.items t.2)
+    (done_line c.lines.self.stage c.answer.new.stage _ _ (g.O.Sink.held c.lines.output) (g.O.Sink.held c.answer.new.output) (Err c.in-Err.stopped) c.deref.ensures.value c.in-Err.ensures.done))
+
+pub returns-in-End-clause-run : goal.returns-in-End-clause-run
+returns-in-End-clause-run g c =
+    let t = c.in-End.ensures.takes in
+    done_end c.lines.invariant.so_far _ _ t.0 c.next_line.new.self c.next_line.new.line.items t.1 t.2
+
+pub returns-in-TooLong-clause-run : goal.returns-in-TooLong-clause-run
+returns-in-TooLong-clause-run g c =
+    let t = c.in-TooLong.ensures.takes in
+    rw c.status_of-in-TooLong.ensures.status
+    (too_long c.lines.invariant.so_far (g.I.Source.ended c.next_line.new.input) (g.I.Source.left c.next_line.new.input) t.0 c.next_line.new.self c.next_line.new.line.items t.1 t.2)
+
+pub returns-in-ReadFault-clause-run : goal.returns-in-ReadFault-clause-run
+returns-in-ReadFault-clause-run g c =
+    let t = c.in-ReadFault.ensures.takes in
+    cut_off c.lines.invariant.so_far _ _ t.0 c.next_line.new.self c.next_line.new.line.items t.1 t.2
+
+pub returns-in-NoMemory-clause-run : goal.returns-in-NoMemory-clause-run
+returns-in-NoMemory-clause-run g c =
+    let t = c.in-NoMemory.ensures.takes in
+    no_memory c.lines.invariant.so_far _ _ _ t.0 t.1 refl
+
+pub returns-in-Ok-answer-clause-run : goal.returns-in-Ok-answer-clause-run
+returns-in-Ok-answer-clause-run g c =
+    let t = c.in-Last.ensures.takes in
+    done_last c.lines.invariant.so_far _ _ _ t.0 c.next_line.new.self c.next_line.new.line.items _ t.1 t.2
+    (rw c.deref-in-Last.ensures.value at c.in-Ok-answer.ensures.done)
+
+pub returns-in-Err-answer-clause-run : goal.returns-in-Err-answer-clause-run
+returns-in-Err-answer-clause-run g c =
+    let so = c.lines.invariant.so_far in
+    let t = c.in-Last.ensures.takes in
+    rw c.status_of-in-Err-answer.ensures.status
+    (stopped_gives c.in-Err-answer.stopped so (g.I.Source.ended c.next_line.new.input) (g.I.Source.left c.next_line.new.input) (g.O.Sink.held c.answer-in-Last.new.output) t.0 c.next_line.new.line.items c.answer-in-Last.new.stage
+    t.1 (begins_last so (g.I.Source.ended c.next_line.new.input) t.0 c.next_line.new.self c.next_line.new.line.items t.2)
+    (done_line c.lines.self.stage c.answer-in-Last.new.stage _ _ (g.O.Sink.held c.lines.output) (g.O.Sink.held c.answer-in-Last.new.output) (Err c.in-Err-answer.stopped) c.deref-in-Last.ensures.value c.in-Err-answer.ensures.done))

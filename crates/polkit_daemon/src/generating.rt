@@ -1,0 +1,49 @@
+// The command that runs generated checks.
+ghost use Rattle.std.specs.Prelude.{◌≡◌, ◌≤◌, IfOk, OnOk};
+ghost use Rattle.pk_outside.specs.Causes.{Rose};
+ghost use Rattle.authority_model.specs.Legal.{Legal};
+ghost use Rattle.authority_model.specs.Licensed.{AllLicensed};
+ghost use Rattle.generated_run.specs.Run.{generated};
+ghost use Rattle.polkit_daemon.specs.Generate.{Generates, generated_line};
+
+use crate::status::Status;
+use generated_run::{generate, summary_line};
+use pk_outside::{Failed, Sink, write_all};
+use pk_types::{ByteList, NoMemory};
+use std::alloc::Global;
+
+/// The line of a generated run of so many checks.
+fn generated_line(alloc: Global, checks: u32) -> Result<ByteList, NoMemory>
+    requires checks { checks ≤ 100000 }
+    ensures line { IfOk result (λ line. line ≡ generated_line checks) }
+    ensures legal { OnOk result (Legal (generated checks)) }
+    ensures licensed { OnOk result (AllLicensed (generated checks)) }
+{
+    let summary = generate(alloc, checks)?;
+    summary_line(alloc, &summary)
+}
+
+/// Runs so many generated checks, from 1 to 100,000, each with its dialogue, and writes one line that
+/// counts the verdicts, the temporary authorizations and the entries.
+///
+/// # Errors
+/// `WriteFault` only where the output counted a fault; `NoMemory`, which may come in place of any
+/// answer.
+pub fn load_run<O: Sink>(alloc: Global, checks: u32, output: &mut O) -> Status
+    requires checks { (1 ≤ checks) × (checks ≤ 100000) }
+
+    // What is written is the line of the generated run, as far as the status says.
+    ensures run { Generates checks (O.held output.old) (O.held output.new) result }
+
+    // A fault of the outside is told only where the object counted it.
+    ensures write { result ≡ Status.WriteFault → Rose (O.faults output.old) (O.faults output.new) }
+{
+    let line = match generated_line(alloc, checks) {
+        Ok(line) => line,
+        Err(NoMemory) => return Status::NoMemory,
+    };
+    match write_all(output, line.as_slice()) {
+        Ok(()) => return Status::Done,
+        Err(Failed) => return Status::WriteFault,
+    }
+}
