@@ -1,5 +1,5 @@
 -- What a run has behind one more entry.
-use Rattle.std.proofs.Common.{◌≡◌, ℕ, ◌+◌, subst, List, [], ◌∷◌, ◌++◌, Result, Ok, Err, Some, OnOk, refl, ap, sym, ◌∙◌, length, arith, length-append}
+use Rattle.std.proofs.Common.{◌≡◌, ℕ, ◌+◌, subst, List, [], ◌∷◌, ◌++◌, Some, refl, ap, sym, ◌∙◌, length, arith, length-append}
 use Rattle.std.specs.Prelude.{slice_get, unwrap_or}
 use Rattle.std.proofs.lemmas.Option.{slice_get_read}
 use Rattle.std.proofs.Math.Seq.{get_or-append_seam}
@@ -38,10 +38,6 @@ pub has_next : (past : List Item) (old new : Run) (g : Given) → Has past old �
     → Tallies (next past g ∷ past) new.tally → Has (entered past g) new
 unfolding entered
 has_next past old new g has grows tally = record { items = grows ∙ ap (λ p. next p g ∷ p) has.items; tally = tally }
-
-pub on_ok : {T E : Type 0} {P Q : Type 0} (r : Result T E) → (P → Q) → OnOk r P → OnOk r Q
-on_ok (Ok x) f p = f p
-on_ok (Err e) f p = tt
 
 -- no event was entered yet
 pub none_entered : (given : ℕ → Given) (past : List Item) (run : Run) → Has past run → Has (each_entered given 0 past) run

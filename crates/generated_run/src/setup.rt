@@ -1,5 +1,5 @@
 // The setup: root, eight users with a process each, and an action for each implicit value.
-ghost use Rattle.std.specs.Prelude.{◌≡◌, ◌<◌, ◌+◌, ◌∷◌, ◌++◌, codes, IfOk};
+ghost use Rattle.std.specs.Prelude.{◌≡◌, ◌<◌, ◌∷◌, IfOk};
 ghost use Rattle.generated_run.specs.Setup.{user_named, root, user, process, action_valued, action, policy, world, setup, each_below};
 
 use crate::texts::{action_id, text};
@@ -10,12 +10,12 @@ use pk_types::{ActionId, Implicit, List, NoMemory, Text};
 use std::alloc::Global;
 
 /// A user of this name, with its label and no group.
-fn user_named(alloc: Global, uid: u32, name: &str, label: &str) -> Result<User, NoMemory>
-    requires { label.now ≡ codes "unix-user:" ++ name.now }
+fn user_named(alloc: Global, uid: u32, name: &str) -> Result<User, NoMemory>
     ensures user { IfOk result (λ made. made ≡ user_named uid name.now) }
 {
-    let name = text(alloc, name.as_bytes())?;
+    let label = format!(in alloc; "unix-user:{name}")?;
     let label = text(alloc, label.as_bytes())?;
+    let name = text(alloc, name.as_bytes())?;
     Ok(User {
         uid,
         name,
@@ -30,8 +30,7 @@ fn user(alloc: Global, i: u32) -> Result<User, NoMemory>
     ensures user { IfOk result (λ made. made ≡ user i) }
 {
     let name = format!(in alloc; "u{i}")?;
-    let label = format!(in alloc; "unix-user:u{i}")?;
-    user_named(alloc, 1000 + i, name.as_str(), label.as_str())
+    user_named(alloc, 1000 + i, name.as_str())
 }
 
 #[tactic(auto, using(crate::proofs::Steps::each_below_none, crate::proofs::Steps::each_below_more))]
@@ -39,7 +38,7 @@ fn users(alloc: Global) -> Result<UserList, NoMemory>
     ensures users { IfOk result (λ users. users ≡ root ∷ each_below user 8) }
 {
     let mut users = List::new(alloc);
-    users.try_push(user_named(alloc, 0, "root", "unix-user:root")?)?;
+    users.try_push(user_named(alloc, 0, "root")?)?;
     for i in 0..8 {
         users.try_push(user(alloc, i)?)?;
     }
