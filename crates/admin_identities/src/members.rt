@@ -8,22 +8,11 @@ ghost use Rattle.admin_identities.specs.Adding.{added, member_of};
 use authority_model::{User, World};
 use pk_types::{Identity, IdentityList, NoMemory, Text};
 
-/// Whether two identities are one.
-fn is_same(one: Identity, other: Identity) -> bool
-    ensures same { result ≡ same_identity one other }
-{
-    match (one, other) {
-        (Identity::User(uid), Identity::User(other_uid)) => uid == other_uid,
-        (Identity::Group(gid), Identity::Group(other_gid)) => gid == other_gid,
-        _ => false,
-    }
-}
-
 /// Whether an identity stands in a list.
 fn has(found: &[Identity], identity: Identity) -> bool
     ensures has { result ≡ any_of (λ i. same_identity i identity) found.now }
 {
-    found.iter().any(|other| is_same(*other, identity))
+    found.iter().any(|other| *other == identity)
 }
 
 /// Puts an identity at the end, unless it stands in the list already.

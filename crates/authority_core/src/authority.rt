@@ -1,7 +1,6 @@
 // The authority: its journal, and the calls that add to it.
 ghost use Rattle.std.specs.Prelude.{◌≡◌, ◌≤◌, ◌^◌, ◌++◌, ◌∷◌, [], max, length, slice_get, IfOk, IfErr, OnOk, OnErr};
 ghost use Rattle.std.specs.Option.{option_copied, option_map};
-ghost use Rattle.authority_model.specs.declared.journal.History.{History as TheHistory};
 ghost use Rattle.authority_model.specs.Items.{items_of, policy_of};
 ghost use Rattle.authority_model.specs.Legal.{IsLegal, last_moment};
 ghost use Rattle.authority_model.specs.Licensed.{AllLicensed};
@@ -10,22 +9,14 @@ ghost use Rattle.authority_model.specs.Grants.{kept};
 ghost use Rattle.authority_model.specs.Given.{IsStepped, event_given, load_given, next, Grows};
 
 use crate::entering::{enter, enter_load, load_in_force, next_load};
+use crate::limits::Limits;
 use authority_model::{Decision, Entry, Event, History, Loaded};
-use check_decision::ruling;
+use check_decision::decision;
 use journal_answers::{load_outputs, outputs};
 use journal_state::{State, facts_of};
 use pk_types::{List, NoMemory, Subject, Text};
 use std::alloc::Global;
 use std::marker::Model;
-
-/// How much a journal may hold. It has no effect yet.
-#[derive(Clone, Copy, Debug, PartialEq, Eq)]
-pub struct Limits {
-    /// The number of entries, at most 1,048,576.
-    pub entries: u64,
-    /// The counted bytes, at most 536,870,912.
-    pub bytes: u64,
-}
 
 /// Why an event was refused. It comes back, and nothing has changed.
 #[derive(Drop)]
@@ -55,7 +46,7 @@ pub enum LoadStepRefused {
     },
 }
 
-/// The authority on one thread. It is seen as its journal, which is legal.
+/// The authority on one thread. It is seen as its journal, which is legal, and its limits.
 #[derive(Drop)]
 pub struct Authority {
     alloc: Global,
@@ -70,22 +61,23 @@ pub struct Authority {
 }
 
 impl Model for Authority {
-    ghost use Rattle.authority_model.specs.declared.journal.History.{History};
+    ghost use Rattle.authority_core.specs.Journal.{Journal};
     ghost use Rattle.authority_core.specs.Sound.{IsSound};
 
-    ghost Value = { History };
+    ghost Value = { Journal };
 
-    ghost view = { λ a. a.history };
+    ghost view = { λ a. record { history = a.history; limits = a.limits } };
 
     ghost invariant = { λ a. IsSound a.history a.moment a.empty a.state };
 }
 
 impl Authority {
+    ghost use Rattle.authority_core.specs.Journal.{AreAllowed};
+
     /// An authority whose journal is empty.
     pub fn start(alloc: Global, limits: Limits) -> Result<Authority, NoMemory>
-        requires entries { limits.entries ≤ 1048576 }
-        requires bytes { limits.bytes ≤ 536870912 }
-        ensures empty { IfOk result (λ authority. authority ≡ record { entries = []; loads = [] }) }
+        requires limits { AreAllowed limits }
+        ensures empty { IfOk result (λ authority. authority ≡ record { history = record { entries = []; loads = [] }; limits = limits }) }
     {
         Ok(Authority {
             alloc,
@@ -103,16 +95,16 @@ impl Authority {
     /// The journal. It is legal: each event was answered as the definitions say. And each yes in it
     /// is licensed at its place, by what polkit allows a yes for.
     pub fn history(&self) -> &History
-        ensures same { result.now ≡ self.now }
-        ensures legal { IsLegal self.now }
-        ensures licensed { AllLicensed (items_of self.now) }
+        ensures same { result.now ≡ self.now.history }
+        ensures legal { IsLegal self.now.history }
+        ensures licensed { AllLicensed (items_of self.now.history) }
     {
         &self.history
     }
 
     /// The entry at a place counted from 0, and `None` exactly past the end.
     pub fn entry(&self, place: u64) -> Option<&Entry>
-        ensures entry { option_copied result ≡ slice_get self.now.entries place }
+        ensures entry { option_copied result ≡ slice_get self.now.history.entries place }
     {
         self.history.entries.get(place as usize)
     }
@@ -130,11 +122,12 @@ impl Authority {
     ) -> Result<u64, StepRefused>
         requires event { IsStepped event }
         requires moment { moment ≤ 2 ^ 62 }
-        ensures place { IfOk result (λ place. place ≡ length self.old.entries) }
-        ensures grows { OnOk result (Grows self.old self.new (event_given caller moment salt event)) }
-        ensures entry { OnOk result (self.new.entries ≡ self.old.entries ++ (next (items_of self.old) (event_given caller moment salt event)).entry ∷ []) }
-        ensures loads { OnOk result (self.new.loads ≡ self.old.loads) }
+        ensures place { IfOk result (λ place. place ≡ length self.old.history.entries) }
+        ensures grows { OnOk result (Grows self.old.history self.new.history (event_given caller moment salt event)) }
+        ensures entry { OnOk result (self.new.history.entries ≡ self.old.history.entries ++ (next (items_of self.old.history) (event_given caller moment salt event)).entry ∷ []) }
+        ensures loads { OnOk result (self.new.history.loads ≡ self.old.history.loads) }
 
+        ensures limits { self.new.limits ≡ self.old.limits }
         ensures err { OnErr result (self.new ≡ self.old) }
         ensures back { IfErr result (λ refused. refused ≡ StepRefused.NoMemory event) }
     {
@@ -182,11 +175,12 @@ impl Authority {
     /// The entry has the greatest moment handed in so far and the random word 0.
     pub fn load(&mut self, caller: u32, moment: u64, loaded: Loaded) -> Result<u64, LoadStepRefused>
         requires moment { moment ≤ 2 ^ 62 }
-        ensures place { IfOk result (λ place. place ≡ length self.old.entries) }
-        ensures grows { OnOk result (Grows self.old self.new (load_given caller moment loaded)) }
-        ensures entry { OnOk result (self.new.entries ≡ self.old.entries ++ (next (items_of self.old) (load_given caller moment loaded)).entry ∷ []) }
-        ensures loads { OnOk result (self.new.loads ≡ self.old.loads ++ loaded ∷ []) }
+        ensures place { IfOk result (λ place. place ≡ length self.old.history.entries) }
+        ensures grows { OnOk result (Grows self.old.history self.new.history (load_given caller moment loaded)) }
+        ensures entry { OnOk result (self.new.history.entries ≡ self.old.history.entries ++ (next (items_of self.old.history) (load_given caller moment loaded)).entry ∷ []) }
+        ensures loads { OnOk result (self.new.history.loads ≡ self.old.history.loads ++ loaded ∷ []) }
 
+        ensures limits { self.new.limits ≡ self.old.limits }
         ensures err { OnErr result (self.new ≡ self.old) }
         ensures back { IfErr result (λ refused. refused ≡ LoadStepRefused.NoMemory loaded) }
     {
@@ -225,14 +219,14 @@ impl Authority {
     /// greatest, whichever is greater. `None` exactly where the action is unknown or nothing is known
     /// of the subject.
     pub fn decide(&self, moment: u64, subject: &Subject, id: &Text) -> Option<Decision>
-        ensures decision { result ≡ option_map (told_decision (policy_of (items_of self.now))) (decision_on (items_of self.now) (kept (items_of self.now)) (max (last_moment (items_of self.now)) moment) subject.now id.now) }
+        ensures decision { result ≡ option_map (told_decision (policy_of (items_of self.now.history))) (decision_on (items_of self.now.history) (kept (items_of self.now.history)) (max (last_moment (items_of self.now.history)) moment) subject.now id.now) }
     {
         let in_force = load_in_force(self.history.loads.as_slice(), &self.empty);
         let facts = facts_of(&self.state.connections, &in_force.world, subject)?;
         let latest = self.moment.max(moment);
         let grants = self.state.grants.as_slice();
-        match ruling(in_force, grants, &facts, latest, id) {
-            Some(ruling) => Some(ruling.told(&in_force.policy)),
+        match decision(in_force, grants, &facts, latest, id) {
+            Some(decision) => Some(decision.told(&in_force.policy)),
             None => None,
         }
     }

@@ -8,7 +8,9 @@
 
 mod authority;
 mod entering;
+mod limits;
 #[cfg(test)]
 mod tests;
 
-pub use authority::{Authority, Limits, LoadStepRefused, StepRefused};
+pub use authority::{Authority, LoadStepRefused, StepRefused};
+pub use limits::Limits;

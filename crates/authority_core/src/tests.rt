@@ -99,18 +99,7 @@ const DECISIONS: [Case; 6] = [
 
 fn action(alloc: Global, id: &str, any: Implicit) -> Result<Action, Fail> {
     let id = ActionId::read(&Text::try_from_bytes(alloc, id.as_bytes())?)?;
-    Ok(Action {
-        id,
-        descriptions: List::new(alloc),
-        messages: List::new(alloc),
-        vendor: Text::new(alloc),
-        vendor_url: Text::new(alloc),
-        icon: Text::new(alloc),
-        any,
-        inactive: any,
-        active: any,
-        annotations: List::new(alloc),
-    })
+    Ok(Action::plain(alloc, id, any, any, any))
 }
 
 fn process(pid: u32, start: u64, uid: u32) -> Process {

@@ -25,7 +25,7 @@ use Rattle.authority_model.specs.Rules.{action_of}
 use Rattle.authority_model.specs.declared.journal.Item.{Item}
 use Rattle.authority_model.specs.Items.{policy_of, world_of, implicit_for}
 use Rattle.authority_model.specs.Subjects.{facts}
-use Rattle.authority_model.specs.Peers.{live, live_callers, accepts_announce, may_for, is_root}
+use Rattle.authority_model.specs.Peers.{live, live_connections, accepts_announce, may_for, is_root}
 use Rattle.authority_model.specs.declared.pending.Agent.{Agent}
 use Rattle.authority_model.specs.Agents.{agent_for, agent_of, in_force}
 use Rattle.authority_model.specs.declared.verdict.GrantRow.{GrantRow}
@@ -38,7 +38,7 @@ use Rattle.authority_model.specs.declared.load.Loaded.{Loaded}
 use Rattle.authority_model.specs.declared.world.World.{World}
 use Rattle.authority_model.specs.Deciding.{Decision, decided, decision_of, is_live_at}
 use Rattle.authority_model.specs.Verdicts.{verdict_of, no_by, offers, return_verdict, answered_verdict, redecided}
-use Rattle.authority_model.specs.Answers.{loads, reply, answers, answer_call, answer_check, tell, tell_challenge, changed, answer_return, answer_error, tell_return, answer_departed, answer_loaded, for_known, gone, ask, refuse, answer_for, answer_known, answer_unregister, cancelled_name, cancel_begin, reply_to, answer_cancel, answer_respond, answer_revoke, live_grants}
+use Rattle.authority_model.specs.Answers.{loads, reply, answers, answer_call, answer_check, tell, tell_challenge, changed, answer_return, answer_error, tell_return, answer_departed, answer_loaded, for_known, reply_agent_gone, ask, refuse, answer_for, answer_known, answer_unregister, cancelled_name, cancel_begin, reply_to, answer_cancel, answer_respond, answer_revoke, live_grants}
 use Rattle.authority_model.specs.Trust.{trusted}
 use Rattle.authority_model.specs.Licensed.{Permits, ByCheck, ByReturn, IsYesLicensed}
 use Rattle.authority_model.proofs.Cases.{by_test, by_option, Each-append, Each-map}
@@ -54,7 +54,7 @@ module _ (past : List Item) (i : Item) where
   reply_good c serial quiet a h = by_test (Good past i) (quiet || (serial == 0)) [] _ (λ _. tt) (λ _. (h, tt))
 
   changed_good : Good past i (changed past)
-  changed_good = Each-map (λ o. IsYesLicensed past i o.to o.message) _ (live_callers past) (λ c. tt)
+  changed_good = Each-map (λ o. IsYesLicensed past i o.to o.message) _ (live_connections past) (λ c. tt)
 
   flat_good : {A : Type 0} (f : A → List Output) → ((x : A) → Good past i (f x)) → (xs : List A) → Good past i (flat_map f xs)
   flat_good f h [] = tt
@@ -121,7 +121,7 @@ module _ (past : List Item) (i : Item) where
       refused : (cause : ErrorCause) → Good past i (reply i.entry.caller serial quiet (Answer.Refused cause))
       refused cause = reply_good i.entry.caller serial quiet (Answer.Refused cause) tt
 
-  gone_good : (ch : Pending) → Good past i (gone ch)
+  gone_good : (ch : Pending) → Good past i (reply_agent_gone ch)
   gone_good ch = reply_good ch.asker ch.serial ch.quiet (Answer.Verdict (no_by Reason.AgentGone)) (λ e. absurd (cc))
 
   append_good : (xs ys : List Output) → Good past i xs → Good past i ys → Good past i (xs ++ ys)
@@ -152,7 +152,7 @@ module _ (past : List Item) (i : Item) where
 
       unregister_good : (path : Bytes) (f : Facts) → Good past i (option_map_or (answer_unregister past c path say f) (agent_of f.key (in_force past)) (refuse say ErrorCause.NoSuchAgent))
       unregister_good path f = by_option (Good past i) (answer_unregister past c path say f) (agent_of f.key (in_force past)) (refuse say ErrorCause.NoSuchAgent) (λ _. refused ErrorCause.NoSuchAgent) (λ a _.
-          by_test (Good past i) ((a.caller == c) && bytes_eq a.path path) (flat_map gone (pending_at past c f.key) ++ say Answer.Done) (refuse say ErrorCause.NoSuchAgent) (λ _. append_good (flat_map gone (pending_at past c f.key)) (say Answer.Done) (flat_good gone gone_good (pending_at past c f.key)) done) (λ _. refused ErrorCause.NoSuchAgent))
+          by_test (Good past i) ((a.caller == c) && bytes_eq a.path path) (flat_map reply_agent_gone (pending_at past c f.key) ++ say Answer.Done) (refuse say ErrorCause.NoSuchAgent) (λ _. append_good (flat_map reply_agent_gone (pending_at past c f.key)) (say Answer.Done) (flat_good reply_agent_gone gone_good (pending_at past c f.key)) done) (λ _. refused ErrorCause.NoSuchAgent))
 
       of : (call : Call) → i.entry.event ≡ Called serial quiet call → Good past i (answer_call past i.entry.caller i.entry.moment i.entry.salt (reply i.entry.caller serial quiet) call)
       of (Call.Announce pid start) is = by_test (Good past i) (accepts_announce past c pid start) (say (Answer.Name (bus_name c))) (refuse say ErrorCause.BadAnnounce) (λ _. reply_good i.entry.caller serial quiet (Answer.Name (bus_name c)) tt) (λ _. refused ErrorCause.BadAnnounce)
@@ -193,10 +193,10 @@ module _ (past : List Item) (i : Item) where
             told v h = append_good (reply_to ch (Answer.Verdict v)) (if is_some v.grant then changed past else []) (reply_good ch.asker ch.serial ch.quiet (Answer.Verdict v) (λ ok. inr (h ok))) (by_test (Good past i) (is_some v.grant) (changed past) [] (λ _. changed_good) (λ _. tt))
 
         departed_good : (ch : Pending) → Good past i (answer_departed i.entry.caller ch)
-        departed_good ch = by_test (Good past i) (ch.asker == i.entry.caller) (if ch.agent == i.entry.caller then [] else cancel_begin ch) (if ch.agent == i.entry.caller then gone ch else []) (λ _. by_test (Good past i) (ch.agent == i.entry.caller) [] (cancel_begin ch) (λ _. tt) (λ _. (tt, tt))) (λ _. by_test (Good past i) (ch.agent == i.entry.caller) (gone ch) [] (λ _. gone_good ch) (λ _. tt))
+        departed_good ch = by_test (Good past i) (ch.asker == i.entry.caller) (if ch.agent == i.entry.caller then [] else cancel_begin ch) (if ch.agent == i.entry.caller then reply_agent_gone ch else []) (λ _. by_test (Good past i) (ch.agent == i.entry.caller) [] (cancel_begin ch) (λ _. tt) (λ _. (tt, tt))) (λ _. by_test (Good past i) (ch.agent == i.entry.caller) (reply_agent_gone ch) [] (λ _. gone_good ch) (λ _. tt))
 
         loaded_good : (world : World) (ch : Pending) → Good past i (answer_loaded world ch)
-        loaded_good world ch = by_test (Good past i) (lists_key world ch.key) (if lists_key world ch.agent_key then [] else gone ch) (reply_to ch (Answer.Verdict (no_by Reason.SubjectGone)) ++ cancel_begin ch) (λ _. by_test (Good past i) (lists_key world ch.agent_key) [] (gone ch) (λ _. tt) (λ _. gone_good ch)) (λ _. append_good (reply_to ch (Answer.Verdict (no_by Reason.SubjectGone))) (cancel_begin ch) (reply_good ch.asker ch.serial ch.quiet (Answer.Verdict (no_by Reason.SubjectGone)) (λ e. absurd (cc))) (tt, tt))
+        loaded_good world ch = by_test (Good past i) (lists_key world ch.key) (if lists_key world ch.agent_key then [] else reply_agent_gone ch) (reply_to ch (Answer.Verdict (no_by Reason.SubjectGone)) ++ cancel_begin ch) (λ _. by_test (Good past i) (lists_key world ch.agent_key) [] (reply_agent_gone ch) (λ _. tt) (λ _. gone_good ch)) (λ _. append_good (reply_to ch (Answer.Verdict (no_by Reason.SubjectGone))) (cancel_begin ch) (reply_good ch.asker ch.serial ch.quiet (Answer.Verdict (no_by Reason.SubjectGone)) (λ e. absurd (cc))) (tt, tt))
 
         of : (event : Event) → i.entry.event ≡ event → (l : Option Loaded) → Good past i (answers past i.entry.caller i.entry.moment i.entry.salt event l)
         of (Called serial quiet call) is l = on_live (answer_call past i.entry.caller i.entry.moment i.entry.salt (reply i.entry.caller serial quiet) call) (call_good serial quiet call is)

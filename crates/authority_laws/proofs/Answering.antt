@@ -13,14 +13,14 @@ use Rattle.authority_model.specs.Peers.{live, is_root, call_in}
 use Rattle.authority_model.specs.declared.pending.Pending.{Pending}
 use Rattle.authority_model.specs.Challenges.{answer_to, responds}
 use Rattle.authority_model.specs.Cookies.{cookie_text}
-use Rattle.authority_model.specs.Licensed.{Answers, NoneAnswers, FirstAnswers}
+use Rattle.authority_model.specs.Licensed.{IsResponse, NoneResponds, FirstResponds}
 use Rattle.authority_model.proofs.Cases.{both, when_some}
 use Rattle.authority_laws.proofs.Calls.{call_is}
 
 -- what the first answer among the later items is
 abbrev pub FirstIs : List Item → List Item → Cookie → List Identity → Option Identity → Type 0
-FirstIs later rest cookie offered None = NoneAnswers later rest cookie offered
-FirstIs later rest cookie offered (Some identity) = FirstAnswers later rest cookie offered identity
+FirstIs later rest cookie offered None = NoneResponds later rest cookie offered
+FirstIs later rest cookie offered (Some identity) = FirstResponds later rest cookie offered identity
 
 -- an answer that an item gives to a challenge
 responds_is : (call : Option Call) (cookie : Bytes) (ids : List Identity) (id : Identity) → option_and_then (responds cookie ids) call ≡ Some id → (call ≡ Some (Call.Respond cookie id)) × (any_of (same_identity id) ids ≡ true)
@@ -33,10 +33,10 @@ responds_is (Some (Call.Respond cookie' identity)) cookie ids id e =
 responds_is (Some _) cookie ids id e = absurd (cc)
 
 -- an answer to a challenge is a Respond as it should be
-pub answer_is : (past : List Item) (i : Item) (ch : Pending) (id : Identity) → answer_to past ch i ≡ Some id → Answers past i ch.cookie ch.identities id
+pub answer_is : (past : List Item) (i : Item) (ch : Pending) (id : Identity) → answer_to past ch i ≡ Some id → IsResponse past i ch.cookie ch.identities id
 answer_is past i ch id e = of (live past i.entry.caller && is_root past i.entry.caller) refl e
   where
-    of : (b : Bool) → (live past i.entry.caller && is_root past i.entry.caller) ≡ b → (if b then option_and_then (responds (cookie_text ch.cookie) ch.identities) (call_in i.entry.event) else None) ≡ Some id → Answers past i ch.cookie ch.identities id
+    of : (b : Bool) → (live past i.entry.caller && is_root past i.entry.caller) ≡ b → (if b then option_and_then (responds (cookie_text ch.cookie) ch.identities) (call_in i.entry.event) else None) ≡ Some id → IsResponse past i ch.cookie ch.identities id
     of true is e =
         let parts = both (live past i.entry.caller) (is_root past i.entry.caller) is in
         let said = responds_is (call_in i.entry.event) (cookie_text ch.cookie) ch.identities id e in
@@ -45,7 +45,7 @@ answer_is past i ch id e = of (live past i.entry.caller && is_root past i.entry.
     of false is e = absurd (cc)
 
 -- such an answer is found
-pub answer_found : (past : List Item) (i : Item) (ch : Pending) (id : Identity) → Answers past i ch.cookie ch.identities id → answer_to past ch i ≡ Some id
+pub answer_found : (past : List Item) (i : Item) (ch : Pending) (id : Identity) → IsResponse past i ch.cookie ch.identities id → answer_to past ch i ≡ Some id
 answer_found past i ch id h =
     ap (λ b. if b && is_root past i.entry.caller then option_and_then (responds (cookie_text ch.cookie) ch.identities) (call_in i.entry.event) else None) h.lives
     ∙ ap (λ b. if b then option_and_then (responds (cookie_text ch.cookie) ch.identities) (call_in i.entry.event) else None) h.root

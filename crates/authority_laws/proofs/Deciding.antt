@@ -6,7 +6,7 @@ use Rattle.std.specs.Option.{option_map_or}
 use Rattle.std.specs.List.{enumerate_from}
 use Rattle.pk_types.specs.declared.values.Implicit.{Implicit}
 use Rattle.pk_types.specs.declared.values.Category.{Category}
-use Rattle.pk_types.specs.Glob.{matches}
+use Rattle.glob_match.specs.Glob.{matches}
 use Rattle.authority_model.specs.declared.verdict.RuleSource.{RuleSource}
 use Rattle.authority_model.specs.declared.verdict.Reason.{Reason}
 use Rattle.authority_model.specs.declared.policy.Policy.{Policy}

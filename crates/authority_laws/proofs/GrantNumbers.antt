@@ -20,7 +20,7 @@ use Rattle.authority_laws.proofs.ListedKeys.{listed_step, listed_beside, unloade
 use Rattle.authority_laws.proofs.Standing.{not_true, neither}
 
 -- a new grant has the next number
-number_of_new : (past : List Item) → Legal past → (i : Item) (row : GrantRow) → granted past i ≡ Some row → row.id ≡ made past
+pub number_of_new : (past : List Item) → Legal past → (i : Item) (row : GrantRow) → granted past i ≡ Some row → row.id ≡ made past
 number_of_new past legal i row e = let m = granted_is past legal i row e in ap (λ (r : GrantRow). r.id) m.3
 
 -- each grant that was not ended has a number below the count

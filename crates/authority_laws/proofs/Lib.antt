@@ -22,3 +22,7 @@ pub mod OneHistory
 pub mod OneJournal
 pub mod CountedBytes
 pub mod Tracing
+pub mod GreatestPair
+pub mod LeastId
+pub mod LongestRuns
+pub mod RisingLists

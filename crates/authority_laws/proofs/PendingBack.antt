@@ -12,7 +12,7 @@ use Rattle.authority_model.specs.Lists.{Has, or_else}
 use Rattle.authority_model.specs.Challenges.{pending, opened, closes, with_answer, answer_to}
 use Rattle.authority_model.specs.Cookies.{cookie_text}
 use Rattle.authority_model.specs.Legal.{Legal}
-use Rattle.authority_model.specs.Licensed.{Answers, NoneAnswers, FirstAnswers}
+use Rattle.authority_model.specs.Licensed.{IsResponse, NoneResponds, FirstResponds}
 use Rattle.authority_model.specs.LookBack.{unanswered, NoneOf, Opens, IsPending, IsAnswered}
 use Rattle.authority_model.proofs.Cases.{map_has}
 use Rattle.authority_laws.proofs.Answering.{FirstIs, answer_is, answer_found}
@@ -54,8 +54,8 @@ all_stood = each_pending Stood opens stays
       where
         of : (o : Option Identity) → FirstIs t.later (t.i ∷ t.before) ch.cookie ch.identities o → (n : Option Identity) → answer_to past ch i ≡ n → FirstIs (i ∷ t.later) (t.i ∷ t.before) ch.cookie ch.identities (or_else o n)
         of (Some old) h n now = inl h
-        of None h (Some new) now = inr (h, subst (λ xs. Answers xs i ch.cookie ch.identities new) t.parts (answer_is past i ch new now))
-        of None h None now = (λ id said. absurd (cc (answer_found past i ch id (subst (λ xs. Answers xs i ch.cookie ch.identities id) (sym t.parts) said))), h)
+        of None h (Some new) now = inr (h, subst (λ xs. IsResponse xs i ch.cookie ch.identities new) t.parts (answer_is past i ch new now))
+        of None h None now = (λ id said. absurd (cc (answer_found past i ch id (subst (λ xs. IsResponse xs i ch.cookie ch.identities id) (sym t.parts) said))), h)
 
 -- what is in the list, looking back finds
 pub pending_back : (past : List Item) → Legal past → (ch : Pending) → Has (pending past) ch → IsPending past (unanswered ch)
@@ -82,10 +82,10 @@ pub record FirstAt (later rest : List Item) (cookie : Cookie) (offered : List Id
   pub j : Item
   pub between : List Item
   pub parts : later ≡ after ++ j ∷ between
-  pub none : NoneAnswers between rest cookie offered
-  pub answers : Answers (between ++ rest) j cookie offered identity
+  pub none : NoneResponds between rest cookie offered
+  pub answers : IsResponse (between ++ rest) j cookie offered identity
 
-first_at : (later rest : List Item) (cookie : Cookie) (offered : List Identity) (identity : Identity) → FirstAnswers later rest cookie offered identity → FirstAt later rest cookie offered identity
+first_at : (later rest : List Item) (cookie : Cookie) (offered : List Identity) (identity : Identity) → FirstResponds later rest cookie offered identity → FirstAt later rest cookie offered identity
 first_at [] rest cookie offered identity h = absurd h
 first_at (j ∷ later) rest cookie offered identity (inl h) = let f = first_at later rest cookie offered identity h in record { after = j ∷ f.after; j = f.j; between = f.between; parts = ap (λ xs. j ∷ xs) f.parts; none = f.none; answers = f.answers }
 first_at (j ∷ later) rest cookie offered identity (inr h) = record { after = []; j = j; between = later; parts = refl; none = h.0; answers = h.1 }
@@ -95,19 +95,19 @@ none_oldest : (test : List Item → Item → Bool) (after : List Item) (j : Item
 none_oldest test [] j between rest h = h.1
 none_oldest test (x ∷ after) j between rest h = none_oldest test after j between rest h.1
 
-no_answer_at : (after : List Item) (j : Item) (between rest : List Item) (cookie : Cookie) (offered : List Identity) (identity : Identity) → NoneAnswers (after ++ j ∷ between) rest cookie offered → Answers (between ++ rest) j cookie offered identity → ⊥
+no_answer_at : (after : List Item) (j : Item) (between rest : List Item) (cookie : Cookie) (offered : List Identity) (identity : Identity) → NoneResponds (after ++ j ∷ between) rest cookie offered → IsResponse (between ++ rest) j cookie offered identity → ⊥
 no_answer_at [] j between rest cookie offered identity h said = h.0 identity said
 no_answer_at (x ∷ after) j between rest cookie offered identity h said = no_answer_at after j between rest cookie offered identity h.1 said
 
-not_first : (later rest : List Item) (cookie : Cookie) (offered : List Identity) (identity : Identity) → FirstAnswers later rest cookie offered identity → NoneAnswers later rest cookie offered → ⊥
+not_first : (later rest : List Item) (cookie : Cookie) (offered : List Identity) (identity : Identity) → FirstResponds later rest cookie offered identity → NoneResponds later rest cookie offered → ⊥
 not_first [] rest cookie offered identity h none = h
 not_first (j ∷ later) rest cookie offered identity (inl h) none = not_first later rest cookie offered identity h none.1
 not_first (j ∷ later) rest cookie offered identity (inr h) none = none.0 identity h.1
 
-same_answer : (past : List Item) (j : Item) (cookie : Cookie) (offered : List Identity) (x y : Identity) → Answers past j cookie offered x → Answers past j cookie offered y → x ≡ y
+same_answer : (past : List Item) (j : Item) (cookie : Cookie) (offered : List Identity) (x y : Identity) → IsResponse past j cookie offered x → IsResponse past j cookie offered y → x ≡ y
 same_answer past j cookie offered x y a b = let same : Called a.serial a.quiet (Call.Respond (cookie_text cookie) x) ≡ Called b.serial b.quiet (Call.Respond (cookie_text cookie) y) = sym a.event ∙ b.event in cc same
 
-first_unique : (after : List Item) (j : Item) (between rest : List Item) (cookie : Cookie) (offered : List Identity) (x y : Identity) → FirstAnswers (after ++ j ∷ between) rest cookie offered x → NoneAnswers between rest cookie offered → Answers (between ++ rest) j cookie offered y → x ≡ y
+first_unique : (after : List Item) (j : Item) (between rest : List Item) (cookie : Cookie) (offered : List Identity) (x y : Identity) → FirstResponds (after ++ j ∷ between) rest cookie offered x → NoneResponds between rest cookie offered → IsResponse (between ++ rest) j cookie offered y → x ≡ y
 first_unique [] j between rest cookie offered x y (inl h) none said = absurd (not_first between rest cookie offered x h none)
 first_unique [] j between rest cookie offered x y (inr h) none said = same_answer (between ++ rest) j cookie offered x y h.1 said
 first_unique (z ∷ after) j between rest cookie offered x y (inl h) none said = first_unique after j between rest cookie offered x y h none said

@@ -1,1 +1,4 @@
 pub mod Counted
+pub mod Greatest
+pub mod Least
+pub mod Longest

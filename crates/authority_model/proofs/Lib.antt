@@ -4,8 +4,16 @@ pub mod ChallengeExamples
 pub mod GrantExamples
 pub mod ReturnExamples
 pub mod CostExamples
+pub mod QuietExamples
+pub mod ConnectionExamples
+pub mod AgentExamples
+pub mod LoadExamples
+pub mod CollectExamples
+pub mod ExpiredExamples
 pub mod Cases
 pub mod Pairing
 pub mod LastLoad
 pub mod FirstPlace
 pub mod Fronts
+pub mod Endings
+pub mod Digits

@@ -18,7 +18,7 @@ abbrev pub unregister_of : List Item → Key → Bytes → Call → Bool
 unregister_of past key path (Call.Unregister subject path') = bytes_eq path' path && option_map_or (same_key key) (key_of past subject) false
 unregister_of past key path _ = false
 
--- whether an item is such an Unregister by this caller
+-- whether an item is such an Unregister by this connection
 abbrev pub unregisters : List Item → ℕ → Key → Bytes → Item → Bool
 unregisters past c key path i = is_by c i && option_map_or (unregister_of past key path) (call_in i.entry.event) false
 
@@ -26,7 +26,7 @@ unregisters past c key path i = is_by c i && option_map_or (unregister_of past k
 abbrev pub unlists : Key → Item → Bool
 unlists key i = option_map_or (λ l. not (lists_key l.world key)) i.loaded false
 
--- whether an item ends a registration: its caller departs or unregisters it, or a load does not list its key
+-- whether an item ends a registration: its connection departs or unregisters it, or a load does not list its key
 abbrev pub ends : List Item → Agent → Item → Bool
 ends past a i = departs a.caller i || unregisters past a.caller a.key a.path i || unlists a.key i
 
@@ -34,7 +34,7 @@ ends past a i = departs a.caller i || unregisters past a.caller a.key a.path i |
 abbrev pub agent_of : Key → List Agent → Option Agent
 agent_of key agents = find (λ a. same_key a.key key) agents
 
--- The registration that a caller's item makes for a subject of these facts, where these are in force: the caller is live and may speak for the subject, and no other agent is registered for it.
+-- The registration that a connection's item makes for a subject of these facts, where these are in force: the connection is live and may speak for the subject, and no other agent is registered for it.
 abbrev pub registered_for : List Item → List Agent → Item → Bytes → Bytes → Facts → Option Agent
 registered_for past agents i locale path f = when (live past i.entry.caller && may_for past i.entry.caller f.uid && not (is_some (agent_of f.key agents))) (record { caller = i.entry.caller; key = f.key; path = path; locale = locale })
 

@@ -1,5 +1,5 @@
 -- What each event is answered. The causes of a refusal stand in the order in which they are judged.
-use Rattle.std.specs.Prelude.{ℕ, ◌+◌, ◌%◌, ◌==◌, Bool, true, false, not, ◌&&◌, ◌||◌, if◌then◌else◌, List, [], ◌∷◌, ◌++◌, Option, Some, None, is_some, unwrap_or, bytes_eq, find, filter, map, codes, nat_le, flat_map}
+use Rattle.std.specs.Prelude.{ℕ, ◌+◌, ◌==◌, Bool, true, false, not, ◌&&◌, ◌||◌, if◌then◌else◌, List, [], ◌∷◌, ◌++◌, Option, Some, None, is_some, unwrap_or, bytes_eq, find, filter, map, codes, nat_le, flat_map}
 use Rattle.std.specs.Option.{option_map_or}
 use Rattle.pk_types.specs.declared.values.Subject.{Subject}
 use Rattle.pk_types.specs.declared.values.Implicit.{Implicit}
@@ -22,15 +22,17 @@ use Rattle.authority_model.specs.declared.world.World.{World}
 use Rattle.authority_model.specs.declared.policy.Action.{Action}
 use Rattle.authority_model.specs.declared.pending.Agent.{Agent}
 use Rattle.authority_model.specs.declared.pending.Pending.{Pending}
+use Rattle.authority_model.specs.declared.pending.TheConstants.{MAX_PENDING}
 use Rattle.authority_model.specs.Lists.{any_of}
 use Rattle.authority_model.specs.Words.{Bytes, bus_name}
+use Rattle.authority_model.specs.Interaction.{allows_interaction}
 use Rattle.authority_model.specs.Keys.{same_key, uid_of_key}
 use Rattle.authority_model.specs.Worlds.{lists_key}
 use Rattle.authority_model.specs.Facts.{Facts}
 use Rattle.authority_model.specs.Admins.{allowed}
 use Rattle.authority_model.specs.Rules.{action_of}
 use Rattle.authority_model.specs.Items.{Item, world_of, policy_of, implicit_for}
-use Rattle.authority_model.specs.Peers.{live, is_root, may_for, live_callers, accepts_announce}
+use Rattle.authority_model.specs.Peers.{live, is_root, may_for, live_connections, accepts_announce}
 use Rattle.authority_model.specs.Subjects.{facts}
 use Rattle.authority_model.specs.Agents.{agent_of, agent_for, in_force}
 use Rattle.authority_model.specs.Cookies.{cookie_text, grant_text}
@@ -49,15 +51,15 @@ reply c serial quiet answer = if quiet || (serial == 0) then [] else record { to
 abbrev pub reply_to : Pending → Answer → List Output
 reply_to ch answer = reply ch.asker ch.serial ch.quiet answer
 
--- the agent is told that its challenge is over
+-- the agent is told that its challenge has ended
 abbrev pub cancel_begin : Pending → List Output
 cancel_begin ch = record { to = ch.agent; message = Message.CancelBegin ch.agent_path ch.cookie } ∷ []
 
 -- one Changed to each live caller, by rising number
 abbrev pub changed : List Item → List Output
-changed past = map (λ c. record { to = c; message = Message.Changed }) (live_callers past)
+changed past = map (λ c. record { to = c; message = Message.Changed }) (live_connections past)
 
--- the Begin that asks an agent: its cookie has the next number and the entry's random word
+-- the Begin that asks an agent: its cookie has the next number and the entry's salt
 abbrev pub begin_to : List Item → ℕ → Facts → Agent → Action → Implicit → List Pair → Output
 begin_to past salt f agent a value details = record {
   to = agent.caller;
@@ -74,15 +76,15 @@ ask past salt f agent a value details = begin_to past salt f agent a value detai
 abbrev pub refuse : (Answer → List Output) → ErrorCause → List Output
 refuse say cause = say (Answer.Refused cause)
 
--- What a challenge comes to: with the flag, and where there is an agent, it is asked, unless the caller's user has 64 pending checks. Else it is answered as a challenge.
+-- What a challenge comes to: with the flag, and where there is an agent, it is asked, unless the caller's user has as many pending checks as are allowed. Else it is answered as a challenge.
 abbrev pub tell_challenge : List Item → ℕ → ℕ → Facts → Action → List Pair → (Answer → List Output) → Implicit → RuleSource → Bool → Option Agent → List Output
-tell_challenge past c salt f a details say value source true (Some agent) = if nat_le 64 (pending_beside past c) then refuse say ErrorCause.TooManyPending else ask past salt f agent a value details
+tell_challenge past c salt f a details say value source true (Some agent) = if nat_le MAX_PENDING (pending_beside past c) then refuse say ErrorCause.TooManyPending else ask past salt f agent a value details
 tell_challenge past c salt f a details say value source true None = say (Answer.Verdict (verdict_of past (Decision.Challenge value source)))
 tell_challenge past c salt f a details say value source false agent = say (Answer.Verdict (verdict_of past (Decision.Challenge value source)))
 
--- what a check is answered by its decision; bit 0 of the flags allows a challenge to be asked
+-- what a check is answered by its decision; a challenge is asked where the flags allow it
 abbrev pub tell : List Item → ℕ → ℕ → Facts → Action → List Pair → ℕ → (Answer → List Output) → Decision → List Output
-tell past c salt f a details flags say (Decision.Challenge value source) = tell_challenge past c salt f a details say value source (flags % 2 == 1) (agent_for past f)
+tell past c salt f a details flags say (Decision.Challenge value source) = tell_challenge past c salt f a details say value source (allows_interaction flags) (agent_for past f)
 tell past c salt f a details flags say d = say (Answer.Verdict (verdict_of past d))
 
 -- a check of a known action by a subject of these facts: NotTrusted, or its decision
@@ -104,12 +106,12 @@ abbrev pub for_known : List Item → ℕ → Subject → (Answer → List Output
 for_known past c subject say follow = option_map_or (λ f. if may_for past c f.uid then follow f else refuse say ErrorCause.NotYours) (facts past subject) (refuse say ErrorCause.UnknownSubject)
 
 -- the reply to a check whose agent is gone
-abbrev pub gone : Pending → List Output
-gone ch = reply_to ch (Answer.Verdict (no_by Reason.AgentGone))
+abbrev pub reply_agent_gone : Pending → List Output
+reply_agent_gone ch = reply_to ch (Answer.Verdict (no_by Reason.AgentGone))
 
 -- an Unregister where the key has this agent: NoSuchAgent unless it is the caller's with this path; its pending checks are answered
 abbrev pub answer_unregister : List Item → ℕ → Bytes → (Answer → List Output) → Facts → Agent → List Output
-answer_unregister past c path say f a = if (a.caller == c) && bytes_eq a.path path then flat_map gone (pending_at past c f.key) ++ say Answer.Done else refuse say ErrorCause.NoSuchAgent
+answer_unregister past c path say f a = if (a.caller == c) && bytes_eq a.path path then flat_map reply_agent_gone (pending_at past c f.key) ++ say Answer.Done else refuse say ErrorCause.NoSuchAgent
 
 -- the cancelling of a pending check: it is answered, its agent is told, and the canceller too
 abbrev pub answer_cancel : (Answer → List Output) → Pending → List Output
@@ -132,7 +134,7 @@ abbrev pub loads : List Item → ℕ
 loads [] = 0
 loads (i ∷ past) = loads past + (if is_some i.loaded then 1 else 0)
 
--- the outputs of a call by a live caller
+-- the outputs of a call by a live connection
 abbrev pub answer_call : List Item → ℕ → ℕ → ℕ → (Answer → List Output) → Call → List Output
 answer_call past c t salt say (Call.Announce pid start) = if accepts_announce past c pid start then say (Answer.Name (bus_name c)) else refuse say ErrorCause.BadAnnounce
 answer_call past c t salt say (Call.Check subject action details flags cancel) = answer_check past c t salt subject action details flags cancel say
@@ -165,13 +167,13 @@ answer_error name ch = reply_to ch (Answer.Verdict (no_by (if bytes_eq name canc
 
 -- what the departure of a caller means for a pending check: its agent, if it is another one, is told that its asker is gone, and another asker that its agent is gone
 abbrev pub answer_departed : ℕ → Pending → List Output
-answer_departed c ch = if ch.asker == c then (if ch.agent == c then [] else cancel_begin ch) else (if ch.agent == c then gone ch else [])
+answer_departed c ch = if ch.asker == c then (if ch.agent == c then [] else cancel_begin ch) else (if ch.agent == c then reply_agent_gone ch else [])
 
 -- what a load of this world means for a pending check: its subject or its agent may be gone
 abbrev pub answer_loaded : World → Pending → List Output
-answer_loaded world ch = if lists_key world ch.key then (if lists_key world ch.agent_key then [] else gone ch) else reply_to ch (Answer.Verdict (no_by Reason.SubjectGone)) ++ cancel_begin ch
+answer_loaded world ch = if lists_key world ch.key then (if lists_key world ch.agent_key then [] else reply_agent_gone ch) else reply_to ch (Answer.Verdict (no_by Reason.SubjectGone)) ++ cancel_begin ch
 
--- The outputs of an event of caller c at moment t with this random word, after the past; a load comes with its value. A caller that is not live is answered nothing.
+-- The outputs of an event of caller c at moment t with this salt, after the past; a load comes with its value. A caller that is not live is answered nothing.
 abbrev pub answers : List Item → ℕ → ℕ → ℕ → Event → Option Loaded → List Output
 answers past c t salt (Called serial quiet call) loaded = if live past c then answer_call past c t salt (reply c serial quiet) call else []
 answers past c t salt (Returned s) loaded = if live past c then option_map_or (answer_return past t) (at_agent past c s) [] else []

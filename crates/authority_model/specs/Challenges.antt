@@ -120,7 +120,7 @@ abbrev pub responds : Bytes → List Identity → Call → Option Identity
 responds cookie offered (Call.Respond cookie' identity) = when (bytes_eq cookie cookie' && any_of (same_identity identity) offered) identity
 responds cookie offered _ = None
 
--- the answer that an item gives to a challenge: only a live caller of uid 0 gives one
+-- the answer that an item gives to a challenge: only a live connection of uid 0 gives one
 abbrev pub answer_to : List Item → Pending → Item → Option Identity
 answer_to past ch i = if live past i.entry.caller && is_root past i.entry.caller then option_and_then (responds (cookie_text ch.cookie) ch.identities) (call_in i.entry.event) else None
 
@@ -138,18 +138,18 @@ abbrev pub opened_count : List Item → ℕ
 opened_count [] = 0
 opened_count (i ∷ past) = opened_count past + length (option_to_list (opened past i))
 
--- the pending challenge whose Begin was sent to this caller with this serial
+-- the pending challenge whose Begin was sent to this connection with this serial
 abbrev pub at_agent : List Item → ℕ → ℕ → Option Pending
 at_agent past c s = find (λ ch. (ch.agent == c) && (ch.agent_serial == s)) (pending past)
 
--- the pending check of a caller with this cancellation id, which is not empty
+-- the pending check of a connection with this cancellation id, which is not empty
 abbrev pub with_id : List Item → ℕ → Bytes → Option Pending
 with_id past c id = if is_empty id then None else find (λ ch. (ch.asker == c) && bytes_eq ch.cancel id) (pending past)
 
--- how many pending checks have askers of a caller's user
+-- how many pending checks have askers of a connection's user
 abbrev pub pending_beside : List Item → ℕ → ℕ
 pending_beside past c = option_map_or (λ uid. length (filter (λ ch. ch.asker_uid == uid) (pending past))) (uid_of past c) 0
 
--- the pending checks at the registration of a key by a caller
+-- the pending checks at the registration of a key by a connection
 abbrev pub pending_at : List Item → ℕ → Key → List Pending
 pending_at past c key = filter (λ ch. (ch.agent == c) && same_key ch.agent_key key) (pending past)

@@ -12,7 +12,7 @@ unfoldable pub hex : ℕ → ℕ → Bytes
 hex zero n = []
 hex (suc k) n = hex k (n / 16) ++ hex_digit (n % 16) ∷ []
 
--- the text of a cookie: its serial, a dash, and its random word in 32 hexadecimal digits
+-- the text of a cookie: its serial, a dash, and its salt in 32 hexadecimal digits
 abbrev pub cookie_text : Cookie → Bytes
 cookie_text cookie = decimal cookie.serial ++ codes "-" ++ hex 32 cookie.salt
 

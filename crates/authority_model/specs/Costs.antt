@@ -69,7 +69,7 @@ cost_of_reason _ = 0
 abbrev pub cost_of_verdict : Verdict → ℕ
 cost_of_verdict v = cost_of_reason v.reason + cost_of_pairs v.pairs
 
--- what an answer holds; a number, a cookie and a cause are no text
+-- what an answer holds; a number, a cookie and a cause are not texts
 abbrev pub cost_of_answer : Answer → ℕ
 cost_of_answer (Answer.Verdict v) = cost_of_verdict v
 cost_of_answer Answer.Done = 0
@@ -168,6 +168,6 @@ cost_of_load l = capped (cost_of_policy l.policy + cost_of_world l.world + sum_b
 abbrev pub bytes_of : History → ℕ
 bytes_of h = sum_by cost_of_entry h.entries + sum_by cost_of_load h.loads
 
--- a history is full: it has as many entries, or as many counted bytes, as the limits say
+-- A history is full: it has as many entries, or as many counted bytes, as the limits say. (A refusal of a step is to be told by this; no contract cites it yet.)
 abbrev pub IsFull : ℕ → ℕ → History → Type 0
 IsFull entries bytes h = (entries ≤ length h.entries) ⊎ (bytes ≤ bytes_of h)

@@ -25,11 +25,11 @@ pub data Decision : Type 0 where
   Challenge : Implicit → RuleSource → Decision
   No : RuleSource → Decision
 
--- whether a grant that nothing ended is not over at a moment
+-- whether a grant that nothing ended has not expired at a moment
 abbrev pub is_live_at : ℕ → GrantRow → Bool
 is_live_at t g = nat_lt t g.expires
 
--- whether a grant is for a key and an action, and is not over at a moment
+-- whether a grant is for a key and an action, and has not expired at a moment
 abbrev pub serves : Key → Bytes → ℕ → GrantRow → Bool
 serves key action t g = same_key g.key key && bytes_eq g.action action && is_live_at t g
 

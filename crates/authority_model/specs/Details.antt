@@ -29,6 +29,6 @@ keep_detail keep = if keep then detail (codes "polkit.retains_authorization_afte
 abbrev pub grant_detail : Option ℕ → List Pair
 grant_detail grant = option_map_or (λ n. detail (codes "polkit.temporary_authorization_id") (grant_text n)) grant []
 
--- all details of a verdict, in their order; the pairs of the rule that decided come last
+-- All details of a verdict, in their order; the pairs of the rule that decided come last. (Messages are to be written by this; no contract cites it yet.)
 abbrev pub details_of : Verdict → List Pair
 details_of v = decided_by v.reason ++ dismissed_detail v.reason ++ keep_detail v.keep ++ grant_detail v.grant ++ v.pairs

@@ -14,7 +14,7 @@ pub data What : Type 0 where
   Of : Event → What
   Loads : Loaded → What
 
--- What is handed in for an entry: its caller, a moment, a random word, and an event or a load.
+-- What is handed in for an entry: its caller, a moment, a salt, and an event or a load.
 pub record Given : Type 0 where
   pub caller : ℕ
   pub moment : ℕ
@@ -31,7 +31,7 @@ IsStepped event = ⊤
 abbrev pub event_given : ℕ → ℕ → ℕ → Event → Given
 event_given caller moment salt event = record { caller = caller; moment = moment; salt = salt; what = What.Of event }
 
--- a load that is handed in, with the random word 0
+-- a load that is handed in, with the salt 0
 abbrev pub load_given : ℕ → ℕ → Loaded → Given
 load_given caller moment loaded = record { caller = caller; moment = moment; salt = 0; what = What.Loads loaded }
 
@@ -58,7 +58,7 @@ abbrev pub history_of : List Given → List Item
 history_of [] = []
 history_of (g ∷ given) = next (history_of given) g ∷ history_of given
 
--- a load is handed in as a load, and a Collect with the moment 0 and the random word 0
+-- a load is handed in as a load, and a Collect with the moment 0 and the salt 0
 abbrev pub IsProperEvent : Given → Event → Type 0
 IsProperEvent g (Load load) = ⊥
 IsProperEvent g (Collect of) = (g.moment ≡ 0) × (g.salt ≡ 0)

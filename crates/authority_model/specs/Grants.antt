@@ -7,6 +7,7 @@ use Rattle.authority_model.specs.declared.event.Event.TheVariants.{Returned}
 use Rattle.authority_model.specs.declared.key.Key.{Key}
 use Rattle.authority_model.specs.declared.verdict.GrantRow.{GrantRow}
 use Rattle.authority_model.specs.declared.pending.Pending.{Pending}
+use Rattle.authority_model.specs.declared.verdict.TheConstants.{GRANT_SECONDS}
 use Rattle.authority_model.specs.Words.{Bytes}
 use Rattle.authority_model.specs.Keys.{same_key, uid_of_key}
 use Rattle.authority_model.specs.Items.{Item}
@@ -27,9 +28,9 @@ serial_returned _ = None
 abbrev pub returned : List Item → Item → Option Pending
 returned past i = option_and_then (at_agent past i.entry.caller) (serial_returned i.entry.event)
 
--- the row of the grant that a challenge makes at a moment, for 300 seconds
+-- the row of the grant that a challenge makes at a moment, for as long as grants live
 abbrev pub grant_row : Pending → ℕ → ℕ → GrantRow
-grant_row ch t n = record { id = n; action = ch.action; key = ch.key; obtained = t; expires = t + 300 }
+grant_row ch t n = record { id = n; action = ch.action; key = ch.key; obtained = t; expires = t + GRANT_SECONDS }
 
 -- the grant that the return of a challenge makes, with these grants and the number that it would have
 abbrev pub made_by : List Item → List GrantRow → ℕ → ℕ → Pending → Option GrantRow
@@ -67,7 +68,7 @@ abbrev pub grants : List Item → Grants
 grants [] = record { rows = []; count = 0 }
 grants (i ∷ past) = grants_after past i (grants past) (makes past (grants past).rows (grants past).count i)
 
--- the grants that nothing ended, by rising number; some of them may be over
+-- the grants that nothing ended, by rising number; some of them may have expired
 abbrev pub kept : List Item → List GrantRow
 kept past = (grants past).rows
 

@@ -1,5 +1,6 @@
 pub mod Lists
 pub mod Words
+pub mod Interaction
 pub mod Values
 pub mod Keys
 pub mod Worlds

@@ -79,7 +79,7 @@ Permits past f a t Reason.SubjectGone = ⊥
 Permits past f a t Reason.ActionGone = ⊥
 Permits past f a t Reason.IdentityGone = ⊥
 
--- an item is a check by this caller with this serial
+-- an item is a check by this connection with this serial
 pub record Checks (i : Item) (c serial : ℕ) (subject : Subject) (action : Bytes) : Type 0 where
   pub caller : i.entry.caller ≡ c
   pub quiet : Bool
@@ -102,7 +102,7 @@ abbrev pub NthTo : ℕ → ℕ → ℕ → Output → List Output → Type 0
 NthTo c n k o [] = ⊥
 NthTo c n k o (p ∷ outputs) = ((p ≡ o) × (p.to ≡ c) × (n + 1 ≡ k)) ⊎ NthTo c (n + count_to c (p ∷ [])) k o outputs
 
--- An item, with this history before it, asks agent n: it is a check by caller c with this serial, and its Begin is the s-th output to n.
+-- An item, with this history before it, asks agent n: it is a check by connection c with this serial, and its Begin is the s-th output to n.
 -- The registration in force is n's. The key is that of its subject, and these identities may answer.
 pub record Asks (before : List Item) (q : Item) (c serial n s : ℕ) (action : Bytes) (key : Key) (cookie : Cookie) (offered : List Identity) : Type 0 where
   pub subject : Subject
@@ -122,8 +122,8 @@ pub record Asks (before : List Item) (q : Item) (c serial n s : ℕ) (action : B
   pub placed : NthTo n (sent before n) s begin q.entry.outputs
   pub offered_are : offered ≡ allowed (world_of before) (policy_of before).admins value f.uid
 
--- an item is a Respond by a live caller of uid 0 with this cookie and an identity among these
-pub record Answers (past : List Item) (j : Item) (cookie : Cookie) (offered : List Identity) (identity : Identity) : Type 0 where
+-- an item is a Respond by a live connection of uid 0 with this cookie and an identity among these
+pub record IsResponse (past : List Item) (j : Item) (cookie : Cookie) (offered : List Identity) (identity : Identity) : Type 0 where
   pub serial : ℕ
   pub quiet : Bool
   pub event : j.entry.event ≡ Called serial quiet (Call.Respond (cookie_text cookie) identity)
@@ -132,14 +132,14 @@ pub record Answers (past : List Item) (j : Item) (cookie : Cookie) (offered : Li
   pub may_answer : any_of (same_identity identity) offered ≡ true
 
 -- none of the later items is such a Respond
-abbrev pub NoneAnswers : List Item → List Item → Cookie → List Identity → Type 0
-NoneAnswers [] rest cookie offered = ⊤
-NoneAnswers (j ∷ later) rest cookie offered = ((identity : Identity) → Answers (later ++ rest) j cookie offered identity → ⊥) × NoneAnswers later rest cookie offered
+abbrev pub NoneResponds : List Item → List Item → Cookie → List Identity → Type 0
+NoneResponds [] rest cookie offered = ⊤
+NoneResponds (j ∷ later) rest cookie offered = ((identity : Identity) → IsResponse (later ++ rest) j cookie offered identity → ⊥) × NoneResponds later rest cookie offered
 
 -- the first such Respond among the later items has this identity
-abbrev pub FirstAnswers : List Item → List Item → Cookie → List Identity → Identity → Type 0
-FirstAnswers [] rest cookie offered identity = ⊥
-FirstAnswers (j ∷ later) rest cookie offered identity = FirstAnswers later rest cookie offered identity ⊎ (NoneAnswers later rest cookie offered × Answers (later ++ rest) j cookie offered identity)
+abbrev pub FirstResponds : List Item → List Item → Cookie → List Identity → Identity → Type 0
+FirstResponds [] rest cookie offered identity = ⊥
+FirstResponds (j ∷ later) rest cookie offered identity = FirstResponds later rest cookie offered identity ⊎ (NoneResponds later rest cookie offered × IsResponse (later ++ rest) j cookie offered identity)
 
 -- a challenge of the value that the action has now, which this identity may answer
 pub record MayAnswer (past : List Item) (f : Facts) (a : Bytes) (identity : Identity) : Type 0 where
@@ -166,7 +166,7 @@ pub record ByReturn (past : List Item) (i : Item) (c serial : ℕ) (reason : Rea
   pub pending : Has (pending past) challenge
   pub place : challenge.entry ≡ length before
   pub identity : Identity
-  pub answered : FirstAnswers later (q ∷ before) cookie offered identity
+  pub answered : FirstResponds later (q ∷ before) cookie offered identity
   pub f : Facts
   pub facts_are : facts_of_key (world_of past) key ≡ Some f
   pub permits : Permits past f action i.entry.moment reason ⊎ ((reason ≡ Reason.Challenge) × MayAnswer past f action identity)

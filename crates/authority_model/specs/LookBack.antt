@@ -11,6 +11,7 @@ use Rattle.authority_model.specs.declared.journal.Item.{Item}
 use Rattle.authority_model.specs.declared.key.Key.{Key}
 use Rattle.authority_model.specs.declared.message.Output.{Output}
 use Rattle.authority_model.specs.declared.pending.Pending.{Pending}
+use Rattle.authority_model.specs.declared.verdict.TheConstants.{GRANT_SECONDS}
 use Rattle.authority_model.specs.declared.verdict.RuleSource.{RuleSource}
 use Rattle.authority_model.specs.declared.world.Process.{Process as ProcessRow}
 use Rattle.authority_model.specs.Words.{Bytes}
@@ -26,19 +27,19 @@ use Rattle.authority_model.specs.Challenges.{begun, closes}
 use Rattle.authority_model.specs.Deciding.{Decision, decision_of}
 use Rattle.authority_model.specs.Verdicts.{may_answer}
 use Rattle.authority_model.specs.Grants.{kept, ends_grant, grant_row}
-use Rattle.authority_model.specs.Licensed.{Answers, NoneAnswers, NthTo}
+use Rattle.authority_model.specs.Licensed.{IsResponse, NoneResponds, NthTo}
 
 -- none of the later items, each with the history before it, passes the test
 abbrev pub NoneOf : (List Item → Item → Bool) → List Item → List Item → Type 0
 NoneOf test [] rest = ⊤
 NoneOf test (j ∷ later) rest = (test (later ++ rest) j ≡ false) × NoneOf test later rest
 
--- no item connects the caller
+-- no item connects the connection
 abbrev pub NeverConnects : List Item → ℕ → Type 0
 NeverConnects [] c = ⊤
 NeverConnects (i ∷ past) c = (connects c i ≡ None) × NeverConnects past c
 
--- the first Connect of the caller has this uid
+-- the first Connect of the connection has this uid
 pub record IsUid (past : List Item) (c uid : ℕ) : Type 0 where
   pub later : List Item
   pub i : Item
@@ -47,7 +48,7 @@ pub record IsUid (past : List Item) (c uid : ℕ) : Type 0 where
   pub connects : connects c i ≡ Some uid
   pub first : NeverConnects before c
 
--- the caller connected, and did not depart after its first Connect
+-- the connection connected, and did not depart after its first Connect
 pub record IsLive (past : List Item) (c : ℕ) : Type 0 where
   pub later : List Item
   pub i : Item
@@ -58,7 +59,7 @@ pub record IsLive (past : List Item) (c : ℕ) : Type 0 where
   pub first : NeverConnects before c
   pub stays : NoneOf (λ past j. departs c j) later (i ∷ before)
 
--- an item is an Announce by the live caller of a process that the world lists, whose uid is the caller's or the caller's is 0
+-- an item is an Announce by the live connection of a process that the world lists, whose uid is the connection's or the connection's is 0
 pub record Announces (past : List Item) (i : Item) (c pid start : ℕ) : Type 0 where
   pub caller : i.entry.caller ≡ c
   pub serial : ℕ
@@ -74,7 +75,7 @@ abbrev pub NoneAnnounces : List Item → List Item → ℕ → Type 0
 NoneAnnounces [] rest c = ⊤
 NoneAnnounces (j ∷ later) rest c = ((pid start : ℕ) → Announces (later ++ rest) j c pid start → ⊥) × NoneAnnounces later rest c
 
--- the caller is live, and the last item that announces names this process
+-- the connection is live, and the last item that announces names this process
 pub record IsAnnounced (past : List Item) (c pid start : ℕ) : Type 0 where
   pub lives : live past c ≡ true
   pub later : List Item
@@ -84,7 +85,7 @@ pub record IsAnnounced (past : List Item) (c pid start : ℕ) : Type 0 where
   pub announces : Announces before i c pid start
   pub last : NoneAnnounces later (i ∷ before) c
 
--- An item is a Register by a live caller, whose subject has facts with the key, and the key's uid is the caller's or the caller's is 0.
+-- An item is a Register by a live connection, whose subject has facts with the key, and the key's uid is the connection's or the connection's is 0.
 pub record Registers (past : List Item) (r : Item) (a : Agent) : Type 0 where
   pub serial : ℕ
   pub quiet : Bool
@@ -142,7 +143,7 @@ pub record IsPending (past : List Item) (o : Pending) : Type 0 where
   pub opens : Opens before i o
   pub stands : NoneOf (λ past j. closes past o j) later (i ∷ before)
 
--- The first Respond after the item that opened the challenge, by a live caller of uid 0, with its cookie text and one of its identities, has this identity, and the challenge was pending there.
+-- The first Respond after the item that opened the challenge, by a live connection of uid 0, with its cookie text and one of its identities, has this identity, and the challenge was pending there.
 pub record IsAnswered (past : List Item) (o : Pending) (identity : Identity) : Type 0 where
   pub after : List Item
   pub j : Item
@@ -151,8 +152,8 @@ pub record IsAnswered (past : List Item) (o : Pending) (identity : Identity) : T
   pub before : List Item
   pub parts : past ≡ after ++ (j ∷ (between ++ (i ∷ before)))
   pub opens : Opens before i o
-  pub none : NoneAnswers between (i ∷ before) o.cookie o.identities
-  pub answers : Answers (between ++ i ∷ before) j o.cookie o.identities identity
+  pub none : NoneResponds between (i ∷ before) o.cookie o.identities
+  pub answers : IsResponse (between ++ i ∷ before) j o.cookie o.identities identity
   pub stands : NoneOf (λ past j. closes past o j) between (i ∷ before)
 
 -- An item makes a grant: it is a return that closes a challenge, which is pending and was answered; what is decided now is a challenge of a keep value, and the identity may answer it.
@@ -188,5 +189,5 @@ pub record IsLiveGrant (past : List Item) (g : ℕ) (key : Key) (action : Bytes)
   pub number : MadeCount before g
   pub key_is : o.key ≡ key
   pub action_is : o.action ≡ action
-  pub in_time : t < i.entry.moment + 300
+  pub in_time : t < i.entry.moment + GRANT_SECONDS
   pub stands : NoneOf (λ past j. ends_grant past (grant_row o i.entry.moment g) j) later (i ∷ before)

@@ -4,7 +4,7 @@ use Rattle.std.specs.List.{enumerate_from}
 use Rattle.std.specs.Option.{option_map_or}
 use Rattle.pk_types.specs.declared.values.Implicit.{Implicit}
 use Rattle.pk_types.specs.declared.values.Category.{Category}
-use Rattle.pk_types.specs.Glob.{matches}
+use Rattle.glob_match.specs.Glob.{matches}
 use Rattle.authority_model.specs.declared.verdict.RuleSource.{RuleSource}
 use Rattle.authority_model.specs.declared.world.World.{World}
 use Rattle.authority_model.specs.declared.world.User.{User as UserRow}
@@ -18,6 +18,10 @@ use Rattle.authority_model.specs.Worlds.{user_row, group_row}
 -- the action of an id: the first that has it
 abbrev pub action_of : Policy → Bytes → Option Action
 action_of policy id = find (λ a. bytes_eq a.id id) policy.actions
+
+-- an action with these defaults and nothing else
+abbrev pub plain_action : Bytes → Implicit → Implicit → Implicit → Action
+plain_action id any inactive active = record { id = id; descriptions = []; messages = []; vendor = []; vendor_url = []; icon = []; any = any; inactive = inactive; active = active; annotations = [] }
 
 -- the default of an action in a category
 abbrev pub default_of : Action → Category → Implicit

@@ -9,7 +9,7 @@ use Rattle.authority_model.specs.Facts.{Facts, facts_of_process, facts_of_sessio
 use Rattle.authority_model.specs.Items.{Item, world_of}
 use Rattle.authority_model.specs.Peers.{announced}
 
--- the caller that a bus name names: `:1.` and its number
+-- the connection that a bus name names: `:1.` and its number
 abbrev pub caller_named : Bytes → Option ℕ
 caller_named name = option_and_then number_of (after_front (codes ":1.") name)
 

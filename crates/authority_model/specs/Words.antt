@@ -26,7 +26,7 @@ runs parts (b ∷ bs) = if parts b then runs parts bs else run_joined parts b bs
 abbrev pub words : Bytes → List Bytes
 words text = runs is_blank text
 
--- what is left of a text behind this front
+-- what is left of a text behind this prefix
 abbrev pub after_front : Bytes → Bytes → Option Bytes
 after_front [] text = Some text
 after_front (b ∷ front) [] = None
@@ -48,6 +48,6 @@ least_text (x ∷ xs) = Some (option_map_or (λ y. if comes_before y x then y el
 abbrev pub number_of : Bytes → Option ℕ
 number_of word = decimal_up_to 4294967295 word
 
--- the bus name of a caller: `:1.` and its number
+-- the bus name of a connection: `:1.` and its number
 abbrev pub bus_name : ℕ → Bytes
 bus_name caller = codes ":1." ++ decimal caller

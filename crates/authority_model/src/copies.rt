@@ -87,7 +87,7 @@ impl TryCopy for Session {
     }
 }
 
-/// A copy of a text that may lack.
+/// A copy of a text that is optional.
 fn copy_of(text: &Option<Text>) -> Result<Option<Text>, NoMemory>
     ensures copy { IfOk result (λ copy. copy ≡ text.now) }
 {

@@ -16,7 +16,8 @@ pub enum Call {
         subject: Subject,
         action: Text,
         details: PairList,
-        /// Bit 0 allows user interaction; the others are ignored (CheckAuthorizationFlags).
+        /// `ALLOW_USER_INTERACTION` allows that a user is asked; the other bits are ignored
+        /// (CheckAuthorizationFlags).
         flags: u32,
         /// The cancellation id; empty for none.
         cancel: Text,
@@ -60,7 +61,7 @@ pub enum Call {
     },
     /// The caller asks for another load.
     Reload,
-    /// A message that is no call of the interfaces.
+    /// A message that is not a call of the interfaces.
     Wrong {
         cause: ErrorCause,
     },
@@ -103,8 +104,21 @@ pub enum Event {
     },
     /// The loader is to stop.
     Stop,
-    /// The caller takes the outputs to this caller that it has not taken yet.
+    /// The caller takes the outputs to this connection that it has not taken yet.
     Collect {
         of: u32,
     },
+}
+
+impl Event {
+    ghost use Rattle.std.specs.Prelude.{IsTrue, ◌↔◌};
+    ghost use Rattle.authority_model.specs.Given.{IsStepped};
+
+    /// Whether the event is handed in by a step of its own: a load and a collecting are handed in by
+    /// calls of their own.
+    pub fn is_stepped(&self) -> bool
+        ensures stepped { IsTrue result ↔ IsStepped self.now }
+    {
+        !matches!(self, Event::Load { .. } | Event::Collect { .. })
+    }
 }

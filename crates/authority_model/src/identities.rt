@@ -23,7 +23,7 @@ pub enum IdentityFault {
     Unknown,
 }
 
-/// What is left of a text behind this front.
+/// What is left of a text behind this prefix.
 fn behind<'a>(front: &[u8], text: &'a [u8]) -> Option<&'a [u8]>
     ensures behind { option_copied result ≡ after_front front.now text.now }
 {

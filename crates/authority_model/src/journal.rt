@@ -2,14 +2,20 @@
 use crate::{Event, Loaded, LoadedList, OutputList};
 use pk_types::List;
 
+/// The greatest limit of entries of a journal.
+pub const MAX_ENTRIES: u64 = 1_048_576;
+
+/// The greatest limit of counted bytes of a journal.
+pub const MAX_BYTES: u64 = 536_870_912;
+
 /// One event with its outputs.
 #[derive(Drop)]
 pub struct Entry {
-    /// The number of the caller whose event it is.
+    /// The number of the connection whose event it is.
     pub caller: u32,
     /// The greatest moment handed in so far, in seconds, at most 2^62.
     pub moment: u64,
-    /// The random word of a challenge that the entry opens.
+    /// The salt of a challenge that the entry opens.
     pub salt: u128,
     pub event: Event,
     /// The messages that the event causes, in the order in which they are sent.

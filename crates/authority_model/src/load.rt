@@ -8,7 +8,7 @@ use std::alloc::Global;
 /// A policy file, or something in one, that was skipped.
 #[derive(Drop)]
 pub struct FileFault {
-    /// The path, with the root in front.
+    /// The path, with the root before it.
     pub file: Text,
     /// The name of the fault's kind.
     pub kind: Text,

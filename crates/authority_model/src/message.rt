@@ -16,7 +16,7 @@ pub enum ErrorCause {
     UnknownSubject,
     /// The caller may not ask about the subject, or may not hand in details.
     NotTrusted,
-    /// The caller's user has 64 pending checks.
+    /// The caller's user has as many pending checks as are allowed.
     TooManyPending,
     /// The check was cancelled.
     Cancelled,
@@ -100,7 +100,7 @@ pub enum Message {
 /// A message with its receiver.
 #[derive(Drop)]
 pub struct Output {
-    /// The number of the caller that it is sent to.
+    /// The number of the connection that it is sent to.
     pub to: u32,
     pub message: Message,
 }

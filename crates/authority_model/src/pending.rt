@@ -2,10 +2,13 @@
 use crate::{Cookie, Key, RuleSource};
 use pk_types::{Identity, IdentityList, Implicit, Text};
 
+/// How many checks of one user may be pending at once.
+pub const MAX_PENDING: usize = 64;
+
 /// A registration of an authentication agent.
 #[derive(Drop)]
 pub struct Agent {
-    /// The number of the caller that registered it.
+    /// The number of the connection that registered it.
     pub caller: u32,
     /// Its object path.
     pub path: Text,
@@ -20,7 +23,7 @@ pub struct Agent {
 pub struct Pending {
     /// The place of the entry that opened it, counted from 0.
     pub entry: u64,
-    /// The number of the caller whose check it is.
+    /// The number of the connection whose check it is.
     pub asker: u32,
     pub asker_uid: u32,
     /// The serial of the check.
@@ -38,7 +41,7 @@ pub struct Pending {
     pub cookie: Cookie,
     /// Who may answer.
     pub identities: IdentityList,
-    /// The number of the caller that is asked.
+    /// The number of the connection that is asked.
     pub agent: u32,
     /// The serial of the BeginAuthentication that asks it.
     pub agent_serial: u32,

@@ -1,5 +1,6 @@
 // The policy: actions, rules and administrators.
-use pk_types::{ActionId, Implicit, List, PairList, Text, TextList};
+use pk_types::{ActionId, Category, Implicit, List, PairList, Text, TextList};
+use std::alloc::Global;
 
 /// A text in one language, of an action's descriptions or messages.
 ///
@@ -77,4 +78,98 @@ pub struct Policy {
     pub entries: RuleList,
     /// The items of `AdminIdentities` (pklocalauthority(8), "Administrator Authentication").
     pub admins: TextList,
+}
+
+impl Action {
+    ghost use Rattle.std.specs.Prelude.{◌≡◌, []};
+    ghost use Rattle.std.specs.Option.{option_copied};
+    ghost use Rattle.authority_model.specs.Rules.{default_of, annotation, plain_action};
+
+    /// An action with these defaults and nothing else: no texts, no annotations. It takes no memory.
+    pub fn plain(
+        alloc: Global,
+        id: ActionId,
+        any: Implicit,
+        inactive: Implicit,
+        active: Implicit,
+    ) -> Action
+        ensures plain { result ≡ plain_action id any inactive active }
+    {
+        Action {
+            id,
+            descriptions: List::new(alloc),
+            messages: List::new(alloc),
+            vendor: Text::new(alloc),
+            vendor_url: Text::new(alloc),
+            icon: Text::new(alloc),
+            any,
+            inactive,
+            active,
+            annotations: List::new(alloc),
+        }
+    }
+
+    /// The default of the action for a subject in this category.
+    pub fn default_for(&self, category: Category) -> Implicit
+        ensures default { result ≡ default_of self.now category }
+    {
+        match category {
+            Category::Any => self.any,
+            Category::Inactive => self.inactive,
+            Category::Active => self.active,
+        }
+    }
+
+    /// The value of an annotation: that of the first pair with this key.
+    pub fn annotation(&self, key: &[u8]) -> Option<&Text>
+        ensures first { option_copied result ≡ annotation self.now key.now }
+    {
+        match self
+            .annotations
+            .as_slice()
+            .iter()
+            .find(|pair| pair.key.bytes() == key)
+        {
+            Some(pair) => Some(&pair.value),
+            None => None,
+        }
+    }
+}
+
+impl RuleEntry {
+    ghost use Rattle.std.specs.Prelude.{◌≡◌};
+    ghost use Rattle.authority_model.specs.Rules.{value_of};
+
+    /// The value of the rule for a subject in this category, where it has one.
+    pub fn value_for(&self, category: Category) -> Option<Implicit>
+        ensures value { result ≡ value_of self.now category }
+    {
+        let RuleEntry {
+            any,
+            inactive,
+            active,
+            ..
+        } = self;
+        match category {
+            Category::Any => *any,
+            Category::Inactive => *inactive,
+            Category::Active => *active,
+        }
+    }
+}
+
+impl Policy {
+    ghost use Rattle.std.specs.Prelude.{◌≡◌};
+    ghost use Rattle.std.specs.Option.{option_copied};
+    ghost use Rattle.authority_model.specs.Rules.{action_of};
+
+    /// The action of an id: the first that has it.
+    pub fn action(&self, id: &Text) -> Option<&Action>
+        ensures first { option_copied result ≡ action_of self.now id.now }
+    {
+        self.actions
+            .as_slice()
+            .iter()
+            .find(|action| action.id.text().is_same(id))
+    }
 }

@@ -1,6 +1,9 @@
 // Decisions and verdicts.
-use crate::Key;
-use pk_types::{Category, Implicit, List, PairList, Text};
+use crate::{Key, KeyRef};
+use pk_types::{Category, Implicit, List, NoMemory, PairList, Text, TryCopy};
+
+/// How long a temporary authorization lives, in seconds.
+pub const GRANT_SECONDS: u64 = 300;
 
 /// What gave an implicit value.
 #[derive(Clone, Copy, Debug, PartialEq, Eq)]
@@ -55,12 +58,12 @@ pub enum Reason {
     IdentityGone,
 }
 
-/// What names a challenge: its number, counted from 1, and a random word.
+/// What names a challenge: its number, counted from 1, and a salt.
 #[derive(Clone, Copy, Debug, PartialEq, Eq)]
 pub struct Cookie {
     /// The number of the challenge, counted from 1.
     pub serial: u64,
-    /// The random word of the entry that opened it.
+    /// The salt of the entry that opened it.
     pub salt: u128,
 }
 
@@ -91,9 +94,41 @@ pub struct GrantRow {
     pub key: Key,
     /// When it was made, in seconds.
     pub obtained: u64,
-    /// The first second at which it is over.
+    /// The first second at which it has expired.
     pub expires: u64,
 }
 
 /// A list of grants.
 pub type GrantRowList = List<GrantRow>;
+
+impl GrantRow {
+    ghost use Rattle.std.specs.Prelude.{◌≡◌};
+    ghost use Rattle.authority_model.specs.Keys.{key_seen};
+    ghost use Rattle.authority_model.specs.Deciding.{is_live_at, serves};
+
+    /// Whether a temporary authorization that nothing ended has not expired at a moment.
+    pub fn is_live_at(&self, moment: u64) -> bool
+        ensures live { result ≡ is_live_at moment self.now }
+    {
+        moment < self.expires
+    }
+
+    /// Whether it is for a key and an action, and has not expired at a moment.
+    pub fn serves(&self, key: KeyRef, action: &Text, moment: u64) -> bool
+        ensures serves { result ≡ serves (key_seen key.entry) action.now moment self.now }
+    {
+        self.key.is_same(key) && self.action.is_same(action) && self.is_live_at(moment)
+    }
+}
+
+impl TryCopy for GrantRow {
+    fn try_copy(&self) -> Result<GrantRow, NoMemory> {
+        Ok(GrantRow {
+            id: self.id,
+            action: self.action.try_copy()?,
+            key: self.key.try_copy()?,
+            obtained: self.obtained,
+            expires: self.expires,
+        })
+    }
+}

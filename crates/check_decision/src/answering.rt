@@ -2,12 +2,11 @@
 ghost use Rattle.std.specs.Prelude.{◌≡◌, List, IfOk};
 ghost use Rattle.authority_model.specs.declared.journal.Item.{Item};
 ghost use Rattle.authority_model.specs.Items.{loaded_of};
-ghost use Rattle.authority_model.specs.Values as values;
 ghost use Rattle.authority_model.specs.Admins as admins;
 ghost use Rattle.authority_model.specs.Verdicts as verdicts;
 
 use admin_identities::expand;
-use authority_model::Loaded;
+use authority_model::{Loaded, offers};
 use pk_types::{Identity, IdentityList, Implicit, List, NoMemory};
 use std::alloc::Global;
 
@@ -29,24 +28,6 @@ pub fn allowed(
         }
         Implicit::No | Implicit::Yes => Ok(List::new(alloc)),
     }
-}
-
-/// Whether two identities are one.
-fn is_same(one: Identity, other: Identity) -> bool
-    ensures same { result ≡ values.same_identity one other }
-{
-    match (one, other) {
-        (Identity::User(uid), Identity::User(other)) => uid == other,
-        (Identity::Group(gid), Identity::Group(other)) => gid == other,
-        _ => false,
-    }
-}
-
-/// Whether an identity is among these.
-fn offers(offered: &[Identity], identity: Identity) -> bool
-    ensures offers { result ≡ verdicts.offers offered.now identity }
-{
-    offered.iter().any(|own| is_same(identity, *own))
 }
 
 /// Whether an identity may answer a challenge of this value for this user.

@@ -7,28 +7,28 @@ ghost use Rattle.authority_model.specs.Facts.{facts_seen};
 ghost use Rattle.authority_model.specs.Small.{IsShort};
 ghost use Rattle.authority_model.specs.Deciding.{decision_for};
 ghost use Rattle.authority_model.specs.Deciding as deciding;
-ghost use Rattle.check_decision.specs.Ruling.{ruling_seen};
+ghost use Rattle.check_decision.specs.DecisionRef.{decision_seen};
 
+use crate::decisions::DecisionRef;
 use crate::grants::live_grant;
 use crate::implying::least_implying;
-use crate::rulings::Ruling;
 use crate::values::{is_auth, is_yes};
 use authority_model::{Facts, GrantRow, Loaded, RuleSource};
 use pk_types::{Implicit, Text};
 use policy_decide::implicit;
 
-/// The ruling by a value alone that is not yes.
-fn by_value<'a>(value: Implicit, source: RuleSource) -> Ruling<'a>
-    ensures value { ruling_seen result ≡ deciding.by_value value source }
+/// The decision by a value alone that is not yes.
+fn by_value<'a>(value: Implicit, source: RuleSource) -> DecisionRef<'a>
+    ensures value { decision_seen result ≡ deciding.by_value value source }
 {
     if is_auth(value) {
-        Ruling::Challenge(value, source)
+        DecisionRef::Challenge(value, source)
     } else {
-        Ruling::No(source)
+        DecisionRef::No(source)
     }
 }
 
-/// The ruling where the action has this value: uid 0, a yes of the value, the least live grant, the
+/// The decision where the action has this value: uid 0, a yes of the value, the least live grant, the
 /// least action that implies this one, and then the value, in this order.
 fn decided<'a>(
     loaded: &'a Loaded,
@@ -37,36 +37,36 @@ fn decided<'a>(
     moment: u64,
     action: &Text,
     value: (Implicit, RuleSource),
-) -> Ruling<'a>
+) -> DecisionRef<'a>
     requires entries { IsShort loaded.now.policy.entries }
-    ensures decided { (past : List Item) → loaded.now ≡ loaded_of past → ruling_seen result ≡ deciding.decided past grants.now (facts_seen facts.now) moment action.now value }
+    ensures decided { (past : List Item) → loaded.now ≡ loaded_of past → decision_seen result ≡ deciding.decided past grants.now (facts_seen facts.now) moment action.now value }
 {
     if facts.uid == 0 {
-        return Ruling::Root;
+        return DecisionRef::Root;
     }
     if is_yes(value.0) {
-        return Ruling::Yes(value.1);
+        return DecisionRef::Yes(value.1);
     }
     if let Some(grant) = live_grant(grants, facts.key, action, moment) {
-        return Ruling::Grant(grant.id);
+        return DecisionRef::Grant(grant.id);
     }
     match least_implying(loaded, grants, facts, moment, action) {
-        Some(id) => Ruling::Imply(id),
+        Some(id) => DecisionRef::Imply(id),
         None => by_value(value.0, value.1),
     }
 }
 
-/// The ruling on a subject of these facts at a moment, with the grants that nothing ended, by rising
+/// The decision on a subject of these facts at a moment, with the grants that nothing ended, by rising
 /// number. There is none exactly for an unknown action.
-pub fn ruling<'a>(
+pub fn decision<'a>(
     loaded: &'a Loaded,
     grants: &[GrantRow],
     facts: &Facts<'_>,
     moment: u64,
     action: &Text,
-) -> Option<Ruling<'a>>
+) -> Option<DecisionRef<'a>>
     requires entries { IsShort loaded.now.policy.entries }
-    ensures ruling { (past : List Item) → loaded.now ≡ loaded_of past → option_map ruling_seen result ≡ decision_for past grants.now (facts_seen facts.now) moment action.now }
+    ensures decision { (past : List Item) → loaded.now ≡ loaded_of past → option_map decision_seen result ≡ decision_for past grants.now (facts_seen facts.now) moment action.now }
 {
     match implicit(
         &loaded.policy,

@@ -16,7 +16,7 @@ use crate::order::lesser;
 use crate::values::is_yes;
 use authority_model::{Action, Facts, GrantRow, Loaded, Policy};
 use pk_types::Text;
-use policy_decide::{action, implicit};
+use policy_decide::implicit;
 
 /// The annotation by which an action implies others.
 const IMPLY_KEY: &[u8] = b"org.freedesktop.policykit.imply";
@@ -32,7 +32,7 @@ fn lists(candidate: &Action, id: &Text) -> bool
 fn implies(policy: &Policy, from: &Text, id: &Text) -> bool
     ensures implies { (past : List Item) → policy.now ≡ policy_of past → result ≡ deciding.implies past from.now id.now }
 {
-    match action(policy, from) {
+    match policy.action(from) {
         Some(first) => lists(first, id),
         None => false,
     }

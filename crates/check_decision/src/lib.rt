@@ -1,6 +1,6 @@
 //! The decision on a subject's facts, and its verdict.
 //!
-//! A ruling is the decision that the definitions take on a check: by uid 0, by the value of the
+//! A decision is the decision that the definitions take on a check: by uid 0, by the value of the
 //! action, by a grant, or by an action that implies this one. It takes no memory, and its cost grows
 //! with the number of actions times the length of an annotation. Verdicts and identities take memory.
 #![tactic(auto)]
@@ -8,12 +8,12 @@
 mod annotations;
 mod answering;
 mod decide;
+mod decisions;
 mod grants;
 mod implying;
 mod order;
 mod owners;
 mod returns;
-mod rulings;
 #[cfg(test)]
 mod tests;
 mod values;
@@ -21,8 +21,8 @@ mod verdicts;
 mod words;
 
 pub use answering::allowed;
-pub use decide::ruling;
+pub use decide::decision;
+pub use decisions::DecisionRef;
 pub use owners::owns;
 pub use returns::return_verdict;
-pub use rulings::Ruling;
 pub use verdicts::{no, verdict};

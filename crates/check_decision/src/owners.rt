@@ -1,25 +1,17 @@
 // Owners of actions (the annotation org.freedesktop.policykit.owner of polkit(8)).
-ghost use Rattle.std.specs.Prelude.{◌≡◌, ◌==◌, false, find};
-ghost use Rattle.std.specs.Option.{option_copied, option_map_or};
+ghost use Rattle.std.specs.Prelude.{◌≡◌, ◌==◌, false};
+ghost use Rattle.std.specs.Option.{option_map_or};
 ghost use Rattle.authority_model.specs.Lists.{any_of};
 ghost use Rattle.authority_model.specs.Words.{words};
 ghost use Rattle.authority_model.specs.Worlds as worlds;
 ghost use Rattle.authority_model.specs.Trust as trust;
 
-use crate::annotations::annotation;
 use crate::words::next_word;
-use authority_model::{Action, User, World};
+use authority_model::{Action, World};
 use pk_types::Identity;
 
 /// The annotation that names an action's owners.
 const OWNER_KEY: &[u8] = b"org.freedesktop.policykit.owner";
-
-/// The first row of a user.
-fn user_row(world: &World, uid: u32) -> Option<&User>
-    ensures first { option_copied result ≡ worlds.user_row world.now uid }
-{
-    world.users.as_slice().iter().find(|user| user.uid == uid)
-}
 
 /// Whether a group is among these.
 fn has_group(gids: &[u32], gid: u32) -> bool
@@ -34,7 +26,7 @@ fn covers(world: &World, uid: u32, identity: Identity) -> bool
 {
     match identity {
         Identity::User(own) => own == uid,
-        Identity::Group(gid) => match user_row(world, uid) {
+        Identity::Group(gid) => match world.user(uid) {
             Some(user) => has_group(user.gids.as_slice(), gid),
             None => false,
         },
@@ -69,7 +61,7 @@ fn some_word_covers(world: &World, uid: u32, text: &[u8]) -> bool
 pub fn owns(world: &World, uid: u32, action: &Action) -> bool
     ensures owns { result ≡ trust.owns world.now uid action.now }
 {
-    match annotation(action, OWNER_KEY) {
+    match action.annotation(OWNER_KEY) {
         Some(text) => some_word_covers(world, uid, text.bytes()),
         None => false,
     }

@@ -9,11 +9,11 @@ ghost use Rattle.authority_model.specs.Small.{IsShort};
 ghost use Rattle.authority_model.specs.Deciding.{decision_of};
 ghost use Rattle.authority_model.specs.Values as values;
 ghost use Rattle.authority_model.specs.Verdicts as verdicts;
-ghost use Rattle.check_decision.specs.Ruling.{ruling_seen};
+ghost use Rattle.check_decision.specs.DecisionRef.{decision_seen};
 
 use crate::answering::may_answer;
-use crate::decide::ruling;
-use crate::rulings::Ruling;
+use crate::decide::decision;
+use crate::decisions::DecisionRef;
 use crate::values::is_keep;
 use crate::verdicts::{granted, no, verdict};
 use authority_model::{GrantRow, Key, Loaded, Pending, Reason, Verdict};
@@ -21,29 +21,19 @@ use pk_types::{Identity, Implicit, NoMemory, Text};
 use std::alloc::Global;
 use subject_table::facts_of_key;
 
-/// The uid in a key.
-fn uid_of(key: &Key) -> u32
-    ensures uid { result ≡ uid_of_key key.now }
-{
-    match key {
-        Key::Process { uid, .. } => *uid,
-        Key::Session { uid, .. } => *uid,
-    }
-}
-
-/// The ruling for a key at a moment; there is none for an unknown action or subject.
-fn ruling_of<'a>(
+/// The decision for a key at a moment; there is none for an unknown action or subject.
+fn decision_for_key<'a>(
     loaded: &'a Loaded,
     grants: &[GrantRow],
     moment: u64,
     key: &Key,
     action: &Text,
-) -> Option<Ruling<'a>>
+) -> Option<DecisionRef<'a>>
     requires entries { IsShort loaded.now.policy.entries }
-    ensures ruling { (past : List Item) → loaded.now ≡ loaded_of past → option_map ruling_seen result ≡ decision_of past grants.now moment key.now action.now }
+    ensures decision { (past : List Item) → loaded.now ≡ loaded_of past → option_map decision_seen result ≡ decision_of past grants.now moment key.now action.now }
 {
-    match facts_of_key(&loaded.world, key) {
-        Some(facts) => ruling(loaded, grants, &facts, moment, action),
+    match facts_of_key(&loaded.world, key.borrowed()) {
+        Some(facts) => decision(loaded, grants, &facts, moment, action),
         None => None,
     }
 }
@@ -60,28 +50,31 @@ fn answered(
     ensures verdict { (past : List Item) → loaded.now ≡ loaded_of past
         → IfOk result (λ v. v ≡ (if verdicts.may_answer past value (uid_of_key key.now) identity then verdicts.granted_by (lists.when (values.is_keep value) made) else verdicts.no_by Reason.IdentityGone)) }
 {
-    if !may_answer(alloc, loaded, value, uid_of(key), identity)? {
+    if !may_answer(alloc, loaded, value, key.uid(), identity)? {
         return Ok(no(alloc, Reason::IdentityGone));
     }
     let grant = if is_keep(value) { Some(made) } else { None };
     Ok(granted(alloc, grant))
 }
 
-/// The verdict for a key that an identity answered for, by the ruling that is given now.
+/// The verdict for a key that an identity answered for, by the decision that is given now.
 fn redecided(
     alloc: Global,
     loaded: &Loaded,
     made: u64,
     key: &Key,
     identity: Identity,
-    ruling: &Ruling<'_>,
+    decision: &DecisionRef<'_>,
 ) -> Result<Verdict, NoMemory>
-    ensures verdict { (past : List Item) → loaded.now ≡ loaded_of past → IfOk result (λ v. v ≡ verdicts.redecided past made key.now identity (ruling_seen ruling.now)) }
+    ensures verdict { (past : List Item) → loaded.now ≡ loaded_of past → IfOk result (λ v. v ≡ verdicts.redecided past made key.now identity (decision_seen decision.now)) }
 {
-    match ruling {
-        Ruling::Challenge(value, _) => answered(alloc, loaded, made, key, identity, *value),
-        Ruling::Root | Ruling::Yes(_) | Ruling::Grant(_) | Ruling::Imply(_) | Ruling::No(_) =>
-            verdict(alloc, &loaded.policy, ruling),
+    match decision {
+        DecisionRef::Challenge(value, _) => answered(alloc, loaded, made, key, identity, *value),
+        DecisionRef::Root
+        | DecisionRef::Yes(_)
+        | DecisionRef::Grant(_)
+        | DecisionRef::Imply(_)
+        | DecisionRef::No(_) => verdict(alloc, &loaded.policy, decision),
     }
 }
 
@@ -98,8 +91,8 @@ fn answered_verdict(
     requires entries { IsShort loaded.now.policy.entries }
     ensures verdict { (past : List Item) → loaded.now ≡ loaded_of past → IfOk result (λ v. v ≡ verdicts.answered_verdict past grants.now made moment challenge.now identity) }
 {
-    match ruling_of(loaded, grants, moment, &challenge.key, &challenge.action) {
-        Some(ruling) => redecided(alloc, loaded, made, &challenge.key, identity, &ruling),
+    match decision_for_key(loaded, grants, moment, &challenge.key, &challenge.action) {
+        Some(decision) => redecided(alloc, loaded, made, &challenge.key, identity, &decision),
         None => Ok(no(alloc, Reason::ActionGone)),
     }
 }

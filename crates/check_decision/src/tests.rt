@@ -2,7 +2,7 @@
 ghost use Rattle.std.specs.Prelude.{IfOk};
 ghost use Rattle.authority_model.specs.Small.{IsShort};
 
-use crate::{Ruling, allowed, no, owns, return_verdict, ruling, verdict};
+use crate::{DecisionRef, allowed, decision, no, owns, return_verdict, verdict};
 use authority_model::{
     Action, ActionList, Cookie, Decision, Facts, GrantRow, Key, KeyRef, Loaded, Pending, Process,
     Reason, RuleSource, Session, World,
@@ -30,18 +30,10 @@ fn action(
         key: text(alloc, key)?,
         value: text(alloc, words)?,
     })?;
-    Ok(Action {
-        id: ActionId::read(&text(alloc, id)?)?,
-        descriptions: List::new(alloc),
-        messages: List::new(alloc),
-        vendor: Text::new(alloc),
-        vendor_url: Text::new(alloc),
-        icon: Text::new(alloc),
-        any: Implicit::No,
-        inactive: Implicit::No,
-        active: value,
-        annotations,
-    })
+    let id = ActionId::read(&text(alloc, id)?)?;
+    let mut action = Action::plain(alloc, id, Implicit::No, Implicit::No, value);
+    action.annotations = annotations;
+    Ok(action)
 }
 
 fn actions(alloc: Global) -> Result<ActionList, Fail>
@@ -122,8 +114,8 @@ fn decided(alloc: Global, uid: u32, moment: u64, id: &str) -> Result<Option<Deci
         session: None,
     };
     let id = text(alloc, id)?;
-    Ok(match ruling(&loaded, &grants, &facts, moment, &id) {
-        Some(ruling) => Some(ruling.told(&loaded.policy)),
+    Ok(match decision(&loaded, &grants, &facts, moment, &id) {
+        Some(decision) => Some(decision.told(&loaded.policy)),
         None => None,
     })
 }
@@ -203,7 +195,7 @@ fn identities_and_verdicts_are_told(rt: HostRuntime) -> Result<(), Fail> {
     assert!(rt;
         allowed(alloc, &loaded, Implicit::AuthSelf, 5)?.as_slice() == [Identity::User(5)].as_slice()
     );
-    assert!(rt; verdict(alloc, &loaded.policy, &Ruling::Grant(4))?.yes);
+    assert!(rt; verdict(alloc, &loaded.policy, &DecisionRef::Grant(4))?.yes);
     assert!(rt; !no(alloc, Reason::Dismissed).challenge);
     Ok(())
 }

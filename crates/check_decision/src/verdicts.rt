@@ -4,9 +4,9 @@ ghost use Rattle.authority_model.specs.declared.journal.Item.{Item};
 ghost use Rattle.authority_model.specs.Items.{policy_of};
 ghost use Rattle.authority_model.specs.Verdicts.{yes_by, no_by, challenge_by, granted_by, verdict_of};
 ghost use Rattle.authority_model.specs.Verdicts as verdicts;
-ghost use Rattle.check_decision.specs.Ruling.{ruling_seen};
+ghost use Rattle.check_decision.specs.DecisionRef.{decision_seen};
 
-use crate::rulings::Ruling;
+use crate::decisions::DecisionRef;
 use crate::values::is_keep;
 use authority_model::{Policy, Reason, RuleSource, Verdict};
 use pk_types::{List, NoMemory, PairList};
@@ -91,24 +91,28 @@ fn pairs_of(alloc: Global, policy: &Policy, source: RuleSource) -> Result<PairLi
     }
 }
 
-/// The verdict of a ruling, where nobody is asked.
-pub fn verdict(alloc: Global, policy: &Policy, ruling: &Ruling<'_>) -> Result<Verdict, NoMemory>
-    ensures verdict { (past : List Item) → policy.now ≡ policy_of past → IfOk result (λ v. v ≡ verdict_of past (ruling_seen ruling.now)) }
+/// The verdict of a decision, where nobody is asked.
+pub fn verdict(
+    alloc: Global,
+    policy: &Policy,
+    decision: &DecisionRef<'_>,
+) -> Result<Verdict, NoMemory>
+    ensures verdict { (past : List Item) → policy.now ≡ policy_of past → IfOk result (λ v. v ≡ verdict_of past (decision_seen decision.now)) }
 {
-    match ruling {
-        Ruling::Root => Ok(yes(Reason::Root, List::new(alloc))),
-        Ruling::Yes(source) => {
+    match decision {
+        DecisionRef::Root => Ok(yes(Reason::Root, List::new(alloc))),
+        DecisionRef::Yes(source) => {
             let pairs = pairs_of(alloc, policy, *source)?;
             Ok(yes(reason_of(*source), pairs))
         }
-        Ruling::Grant(id) => Ok(yes(Reason::Grant(*id), List::new(alloc))),
-        Ruling::Imply(id) => {
+        DecisionRef::Grant(id) => Ok(yes(Reason::Grant(*id), List::new(alloc))),
+        DecisionRef::Imply(id) => {
             let id = id.try_copy()?;
             Ok(yes(Reason::Imply(id), List::new(alloc)))
         }
-        Ruling::Challenge(value, source) => {
+        DecisionRef::Challenge(value, source) => {
             Ok(challenge(alloc, reason_of(*source), is_keep(*value)))
         }
-        Ruling::No(source) => Ok(no(alloc, reason_of(*source))),
+        DecisionRef::No(source) => Ok(no(alloc, reason_of(*source))),
     }
 }

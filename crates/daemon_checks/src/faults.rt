@@ -1,5 +1,5 @@
 // A source that fails at each of its calls in turn, and a sink.
-use crate::runs::{SMOOTH, Ways, run};
+use crate::runs::{IoPlan, NO_FAULTS, run};
 use std::test::Fail;
 
 const SCENARIO: &str =
@@ -24,14 +24,14 @@ fn a_read_fault_leaves_whole_lines_answered(rt: HostRuntime) -> Result<(), Fail>
     let scenario = SCENARIO.as_bytes();
     let mut given = 0usize;
     for fault in 1..12u64 {
-        let ways = Ways {
+        let plan = IoPlan {
             read_piece: 16,
             read_fault: fault,
-            ..SMOOTH
+            ..NO_FAULTS
         };
-        let ended = run(&rt, alloc, &["replay"], scenario, ways)?;
+        let ended = run(&rt, alloc, &["replay"], scenario, plan)?;
         let (front, _) = scenario.split_at(given.min(scenario.len()));
-        let want = run(&rt, alloc, &["replay"], whole_lines(front), SMOOTH)?;
+        let want = run(&rt, alloc, &["replay"], whole_lines(front), NO_FAULTS)?;
         if given < scenario.len().saturating_add(16) {
             assert_eq!(rt; ended.status.as_str(), "ReadFault", "call {fault}");
             assert_eq!(rt; ended.code, 3);
@@ -53,12 +53,12 @@ fn a_write_fault_leaves_a_front(rt: HostRuntime) -> Result<(), Fail> {
     let alloc = rt.alloc();
     let mut whole = 0u64;
     for fault in 1..16u64 {
-        let ways = Ways {
+        let plan = IoPlan {
             write_piece: 9,
             write_fault: fault,
-            ..SMOOTH
+            ..NO_FAULTS
         };
-        let ended = run(&rt, alloc, &["replay"], SCENARIO.as_bytes(), ways)?;
+        let ended = run(&rt, alloc, &["replay"], SCENARIO.as_bytes(), plan)?;
         assert!(rt;
             ANSWERS.as_bytes().starts_with(ended.written.as_slice()),
             "call {fault}"

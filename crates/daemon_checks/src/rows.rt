@@ -1,5 +1,5 @@
 // Scenarios, and what a replay answers.
-use crate::runs::{SMOOTH, Ways, run};
+use crate::runs::{IoPlan, NO_FAULTS, run};
 use std::test::Fail;
 
 /// A scenario, what is written, the text of the status and its code.
@@ -112,7 +112,7 @@ const ROWS: [Row; 26] = [
 #[test]
 fn scenarios_are_answered(rt: HostRuntime) -> Result<(), Fail> {
     for (scenario, answers, status, code) in ROWS {
-        let ended = run(&rt, rt.alloc(), &["replay"], scenario.as_bytes(), SMOOTH)?;
+        let ended = run(&rt, rt.alloc(), &["replay"], scenario.as_bytes(), NO_FAULTS)?;
         assert_eq!(rt; ended.status.as_str(), status, "{scenario}");
         assert_eq!(rt; ended.code, code, "{scenario}");
         assert_eq!(rt; ended.written.as_slice(), answers.as_bytes(), "{scenario}");
@@ -123,12 +123,12 @@ fn scenarios_are_answered(rt: HostRuntime) -> Result<(), Fail> {
 #[test]
 fn pieces_change_nothing(rt: HostRuntime) -> Result<(), Fail> {
     for piece in [1, 2, 3, 7, 64] {
-        let ways = Ways {
+        let plan = IoPlan {
             read_piece: piece,
             write_piece: piece,
-            ..SMOOTH
+            ..NO_FAULTS
         };
-        let ended = run(&rt, rt.alloc(), &["replay"], CHECKS.as_bytes(), ways)?;
+        let ended = run(&rt, rt.alloc(), &["replay"], CHECKS.as_bytes(), plan)?;
         assert_eq!(rt; ended.status.as_str(), "Done");
         assert_eq!(rt; ended.written.as_slice(), ANSWERS.as_bytes());
     }
@@ -143,10 +143,10 @@ fn long_lines_are_refused(rt: HostRuntime) -> Result<(), Fail> {
         for _ in 1..len {
             scenario.push(b'x')?;
         }
-        let ended = run(&rt, alloc, &["replay"], scenario.as_slice(), SMOOTH)?;
+        let ended = run(&rt, alloc, &["replay"], scenario.as_slice(), NO_FAULTS)?;
         assert_eq!(rt; ended.status.as_str(), status);
         scenario.extend_from_slice(b"\npeer 2 8\n")?;
-        let ended = run(&rt, alloc, &["replay"], scenario.as_slice(), SMOOTH)?;
+        let ended = run(&rt, alloc, &["replay"], scenario.as_slice(), NO_FAULTS)?;
         assert_eq!(rt; ended.status.as_str(), status);
     }
     Ok(())
@@ -172,7 +172,7 @@ fn other_words_are_refused(rt: HostRuntime) -> Result<(), Fail> {
         &["Load", "6"],
     ];
     for words in commands {
-        let ended = run(&rt, rt.alloc(), words, CHECKS.as_bytes(), SMOOTH)?;
+        let ended = run(&rt, rt.alloc(), words, CHECKS.as_bytes(), NO_FAULTS)?;
         assert_eq!(rt; ended.status.as_str(), "Usage");
         assert_eq!(rt; ended.code, 1);
         assert!(rt; ended.written.is_empty());

@@ -18,7 +18,7 @@ pub struct Ended {
 /// How the input comes and the output goes: pieces in bytes, and the numbers of the calls that
 /// fail.
 #[derive(Clone, Copy)]
-pub struct Ways {
+pub struct IoPlan {
     pub read_piece: usize,
     pub read_fault: u64,
     pub write_piece: usize,
@@ -26,7 +26,7 @@ pub struct Ways {
 }
 
 /// Whole pieces and no fault.
-pub const SMOOTH: Ways = Ways {
+pub const NO_FAULTS: IoPlan = IoPlan {
     read_piece: 4096,
     read_fault: 0,
     write_piece: 4096,
@@ -50,21 +50,21 @@ pub fn run<R: Threads + Wait + Sync>(
     alloc: Global,
     words: &[&str],
     input: &[u8],
-    ways: Ways,
+    plan: IoPlan,
 ) -> Result<Ended, Fail> {
     let words = words_of(alloc, words)?;
     let (input, _) = input.split_at(input.len().min(ROOM));
     let bytes = input.to_vec(alloc)?;
     let mut source = ByteSource::new(
         bytes,
-        ways.read_piece.max(1),
-        vec![in alloc; ways.read_fault]?,
+        plan.read_piece.max(1),
+        vec![in alloc; plan.read_fault]?,
     );
     let mut sink = ByteSink::new(
         alloc,
         ROOM,
-        ways.write_piece.max(1),
-        vec![in alloc; ways.write_fault]?,
+        plan.write_piece.max(1),
+        vec![in alloc; plan.write_fault]?,
     )?;
     let status = polkitd(
         rt,

@@ -34,7 +34,7 @@ newest_is past old new g found place items grows at is =
     )
 
 -- a run has the next item besides
-pub has_next : (past : List Item) (old new : Run) (g : Given) → Has past old → items_of new.authority ≡ next (items_of old.authority) g ∷ items_of old.authority
+pub has_next : (past : List Item) (old new : Run) (g : Given) → Has past old → items_of new.authority.history ≡ next (items_of old.authority.history) g ∷ items_of old.authority.history
     → Tallies (next past g ∷ past) new.tally → Has (entered past g) new
 unfolding entered
 has_next past old new g has grows tally = record { items = grows ∙ ap (λ p. next p g ∷ p) has.items; tally = tally }

@@ -10,6 +10,7 @@ use Rattle.authority_model.specs.declared.journal.Item.{Item}
 use Rattle.authority_model.specs.declared.message.Message.{Message}
 use Rattle.authority_model.specs.declared.message.Message.TheVariants.{Begin}
 use Rattle.authority_model.specs.declared.message.Output.{Output}
+use Rattle.authority_model.specs.declared.interaction.TheConstants.{ALLOW_USER_INTERACTION}
 use Rattle.authority_model.specs.Answers.{cancelled_name}
 use Rattle.authority_model.specs.Cookies.{cookie_text}
 use Rattle.authority_model.specs.Given.{Given, event_given, load_given, next}
@@ -57,7 +58,7 @@ caller_of k = 1 + k % 8
 
 -- the k-th check asks about the caller's process, and lets its agent be asked
 abbrev pub check : ℕ → Event
-check k = Called (k + 2) false (Call.Check (the_process (k % 8)) (action_id (k % 6)) [] 1 [])
+check k = Called (k + 2) false (Call.Check (the_process (k % 8)) (action_id (k % 6)) [] ALLOW_USER_INTERACTION [])
 
 -- the user that an identity is
 abbrev pub user_in : Identity → Option ℕ

@@ -8,24 +8,26 @@ use Rattle.authority_model.specs.declared.policy.Policy.{Policy}
 use Rattle.authority_model.specs.declared.world.Process.{Process}
 use Rattle.authority_model.specs.declared.world.User.{User}
 use Rattle.authority_model.specs.declared.world.World.{World}
+use Rattle.authority_model.specs.Rules.{plain_action}
 use Rattle.authority_model.specs.Words.{Bytes}
+use Rattle.authority_model.specs.Worlds.{user_label}
 
 -- what the numbers below a bound give, in their order
 unfoldable pub each_below : {A : Type 0} → (ℕ → A) → ℕ → List A
 each_below f zero = []
 each_below f (suc n) = each_below f n ++ f n ∷ []
 
--- a user of this name and no group
-abbrev pub user_named : ℕ → Bytes → User
-user_named uid name = record { uid = uid; name = name; label = codes "unix-user:" ++ name; gids = [] }
+-- a user of this name, in these groups
+abbrev pub user_named : ℕ → Bytes → List ℕ → User
+user_named uid name gids = record { uid = uid; name = name; label = user_label name; gids = gids }
 
--- the user root
+-- the user root, in the group 0
 abbrev pub root : User
-root = user_named 0 (codes "root")
+root = user_named 0 (codes "root") (0 ∷ [])
 
 -- the i-th user, whose name is `u` and i
 abbrev pub user : ℕ → User
-user i = user_named (1000 + i) (codes "u" ++ decimal i)
+user i = user_named (1000 + i) (codes "u" ++ decimal i) []
 
 -- its process
 abbrev pub process : ℕ → Process
@@ -35,24 +37,9 @@ process i = record { pid = 100 + i; start = 1; uid = 1000 + i; session = None }
 abbrev pub action_id : ℕ → Bytes
 action_id i = codes "l." ++ decimal i
 
--- an action with one value for each subject, and no texts and annotations
-abbrev pub action_valued : Bytes → Implicit → Action
-action_valued id value = record {
-  id = id;
-  descriptions = [];
-  messages = [];
-  vendor = [];
-  vendor_url = [];
-  icon = [];
-  any = value;
-  inactive = value;
-  active = value;
-  annotations = [];
-}
-
 -- the i-th action, whose value has the code i
 abbrev pub action : ℕ → Action
-action i = action_valued (action_id i) (unwrap_or (implicit_of_code i) Implicit.No)
+action i = let value = unwrap_or (implicit_of_code i) Implicit.No in plain_action (action_id i) value value value
 
 -- the policy: six actions, and no rule
 abbrev pub policy : Policy

@@ -14,5 +14,5 @@ pub record Tallies (past : List Item) (tally : Tally) : Type 0 where
 
 -- a run has these items
 pub record Has (past : List Item) (run : Run) : Type 0 where
-  pub items : items_of run.authority ≡ past
+  pub items : items_of run.authority.history ≡ past
   pub tally : Tallies past run.tally

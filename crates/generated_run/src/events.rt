@@ -6,9 +6,8 @@ ghost use Rattle.generated_run.specs.Run.{the_process, registration, check, resp
 
 use crate::asked::Asked;
 use crate::texts::text;
-use authority_model::{Call, Event};
+use authority_model::{ALLOW_USER_INTERACTION, Call, Event};
 use pk_types::{Identity, List, NoMemory, Subject, Text};
-use scenario_text::cookie_words;
 use std::alloc::Global;
 
 /// The process of the i-th user.
@@ -57,7 +56,7 @@ pub fn check(alloc: Global, k: u32) -> Result<Event, NoMemory>
             subject: process(k % 8),
             action,
             details: List::new(alloc),
-            flags: 1,
+            flags: ALLOW_USER_INTERACTION,
             cancel: Text::new(alloc),
         },
     })
@@ -69,7 +68,8 @@ pub fn response(alloc: Global, k: u32, asked: Asked) -> Result<Event, NoMemory>
     ensures event { IfOk result (λ event. event ≡ response k asked) }
     ensures stepped { IfOk result IsStepped }
 {
-    let cookie = cookie_words(alloc, asked.cookie)?;
+    let mut cookie = String::new(alloc);
+    asked.cookie.push_text(&mut cookie)?;
     let cookie = text(alloc, cookie.as_bytes())?;
     Ok(Event::Call {
         serial: k + 2,

@@ -19,11 +19,6 @@ use authority_model::{Event, Loaded};
 use pk_types::NoMemory;
 use std::alloc::Global;
 
-const LIMITS: Limits = Limits {
-    entries: 1_048_576,
-    bytes: 536_870_912,
-};
-
 /// The number of root's connection.
 const ROOT: u32 = 9;
 
@@ -40,7 +35,7 @@ impl Run {
     fn start(alloc: Global) -> Result<Run, NoMemory>
         ensures empty { IfOk result (Has []) }
     {
-        let authority = Authority::start(alloc, LIMITS)?;
+        let authority = Authority::start(alloc, Limits::GREATEST)?;
         Ok(Run {
             alloc,
             authority,

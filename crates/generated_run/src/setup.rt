@@ -1,17 +1,17 @@
 // The setup: root, eight users with a process each, and an action for each implicit value.
 ghost use Rattle.std.specs.Prelude.{◌≡◌, ◌<◌, ◌∷◌, IfOk};
-ghost use Rattle.generated_run.specs.Setup.{user_named, root, user, process, action_valued, action, policy, world, setup, each_below};
+ghost use Rattle.generated_run.specs.Setup.{user_named, root, user, process, action, policy, world, setup, each_below};
 
 use crate::texts::{action_id, text};
 use authority_model::{
-    Action, ActionList, Loaded, Policy, Process, ProcessList, User, UserList, World,
+    Action, ActionList, GidList, Loaded, Policy, Process, ProcessList, User, UserList, World,
 };
-use pk_types::{ActionId, Implicit, List, NoMemory, Text};
+use pk_types::{Implicit, List, NoMemory};
 use std::alloc::Global;
 
-/// A user of this name, with its label and no group.
-fn user_named(alloc: Global, uid: u32, name: &str) -> Result<User, NoMemory>
-    ensures user { IfOk result (λ made. made ≡ user_named uid name.now) }
+/// A user of this name, with its label, in these groups.
+fn user_named(alloc: Global, uid: u32, name: &str, gids: GidList) -> Result<User, NoMemory>
+    ensures user { IfOk result (λ made. made ≡ user_named uid name.now gids) }
 {
     let label = format!(in alloc; "unix-user:{name}")?;
     let label = text(alloc, label.as_bytes())?;
@@ -20,8 +20,16 @@ fn user_named(alloc: Global, uid: u32, name: &str) -> Result<User, NoMemory>
         uid,
         name,
         label,
-        gids: List::new(alloc),
+        gids,
     })
+}
+
+/// The user root, in the group 0.
+fn root(alloc: Global) -> Result<User, NoMemory>
+    ensures user { IfOk result (λ made. made ≡ root) }
+{
+    let gids = List::try_from_slice(alloc, &[0])?;
+    user_named(alloc, 0, "root", gids)
 }
 
 /// The i-th user, whose name is `u` and i.
@@ -30,7 +38,7 @@ fn user(alloc: Global, i: u32) -> Result<User, NoMemory>
     ensures user { IfOk result (λ made. made ≡ user i) }
 {
     let name = format!(in alloc; "u{i}")?;
-    user_named(alloc, 1000 + i, name.as_str())
+    user_named(alloc, 1000 + i, name.as_str(), List::new(alloc))
 }
 
 #[tactic(auto, using(crate::proofs::Steps::each_below_none, crate::proofs::Steps::each_below_more))]
@@ -38,7 +46,7 @@ fn users(alloc: Global) -> Result<UserList, NoMemory>
     ensures users { IfOk result (λ users. users ≡ root ∷ each_below user 8) }
 {
     let mut users = List::new(alloc);
-    users.try_push(user_named(alloc, 0, "root")?)?;
+    users.try_push(root(alloc)?)?;
     for i in 0..8 {
         users.try_push(user(alloc, i)?)?;
     }
@@ -69,24 +77,6 @@ fn processes(alloc: Global) -> Result<ProcessList, NoMemory>
     Ok(processes)
 }
 
-/// An action with one value for each subject, and no texts and annotations.
-fn action_valued(alloc: Global, id: ActionId, value: Implicit) -> Action
-    ensures action { result ≡ action_valued id value }
-{
-    Action {
-        id,
-        descriptions: List::new(alloc),
-        messages: List::new(alloc),
-        vendor: Text::new(alloc),
-        vendor_url: Text::new(alloc),
-        icon: Text::new(alloc),
-        any: value,
-        inactive: value,
-        active: value,
-        annotations: List::new(alloc),
-    }
-}
-
 /// The i-th action, whose value has the code i.
 fn action(alloc: Global, i: u32) -> Result<Action, NoMemory>
     requires { i < 6 }
@@ -95,7 +85,7 @@ fn action(alloc: Global, i: u32) -> Result<Action, NoMemory>
     let id = format!(in alloc; "l.{i}")?;
     let id = action_id(alloc, id.as_bytes())?;
     let value = Implicit::of_code(i).unwrap_or(Implicit::No);
-    Ok(action_valued(alloc, id, value))
+    Ok(Action::plain(alloc, id, value, value, value))
 }
 
 #[tactic(auto, using(crate::proofs::Steps::each_below_none, crate::proofs::Steps::each_below_more))]

@@ -2,7 +2,7 @@
 use Rattle.std.proofs.Common.{◌≡◌, ◌≢◌, ℕ, suc, ◌==◌, Bool, true, false, ◌&&◌, ◌||◌, List, [], ◌∷◌, ◌++◌, length, Bor, ◌<◌, ◌+◌, ◌≤◌, ◌⊎◌, inl, inr, eq-eqb, refl, ap, sym, ◌∙◌, subst, append_assoc, arith, length-append}
 use Rattle.std.proofs.lemmas.Bool.{ne_eqb}
 use Rattle.std.specs.Prelude.{if◌then◌else◌}
-use Rattle.pk_types.specs.Glob.{glob, some_suffix}
+use Rattle.glob_match.specs.Glob.{glob, some_suffix}
 use Rattle.std.specs.Str.{chars}
 use Rattle.glob_match.specs.declared.walk.Outcome.{Outcome}
 use Rattle.glob_match.specs.declared.walk.Outcome.TheVariants.{Whole, Star, Differs}

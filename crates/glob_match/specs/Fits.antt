@@ -1,7 +1,7 @@
 -- How far a pattern fits a text, on lists of Unicode scalars.
 use Rattle.std.specs.Prelude.{◌≡◌, ◌≢◌, ℕ, ◌<◌, true, false, List, [], ◌∷◌, ◌++◌, length}
 use Rattle.std.specs.Str.{chars}
-use Rattle.pk_types.specs.Glob.{glob, some_suffix}
+use Rattle.glob_match.specs.Glob.{glob, some_suffix}
 use Rattle.glob_match.specs.declared.walk.Outcome.{Outcome}
 use Rattle.glob_match.specs.declared.walk.Outcome.TheVariants.{Whole, Star, Differs}
 

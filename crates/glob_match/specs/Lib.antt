@@ -1,1 +1,2 @@
+pub mod Glob
 pub mod Fits

@@ -1,7 +1,7 @@
 // The walk over pattern and text: each star stays where the rest, up to the next star, first fits.
 ghost use Rattle.std.specs.Prelude.{◌≡◌, ◌↔◌, ◌<◌, IsTrue, length};
 ghost use Rattle.std.specs.Str.{chars};
-ghost use Rattle.pk_types.specs.Glob.{Glob, glob};
+ghost use Rattle.glob_match.specs.Glob.{Glob, glob};
 ghost use Rattle.glob_match.specs.Fits.{FitIs, FirstFitIs, ShorterPattern};
 
 use crate::scalar::next_scalar;

@@ -7,18 +7,16 @@ ghost use Rattle.authority_model.specs.Peers.{accepts_announce};
 ghost use Rattle.authority_model.specs.Small.{IsShort};
 ghost use Rattle.authority_model.specs.Words.{bus_name as bus_name_of};
 ghost use Rattle.journal_answers.specs.Contexts.{IsContextOf};
-ghost use Rattle.journal_answers.specs.Told.{said};
+ghost use Rattle.journal_answers.specs.Told.{reply_of};
 
 use crate::checking::{Check, answer_check};
 use crate::context::Context;
 use crate::granting::revoke_one;
-use crate::keys::offers;
 use crate::names::bus_name;
-use crate::replies::{Say, cancel_begin, reply_to};
+use crate::replies::{ReplyTo, cancel_begin, reply_to};
 use crate::subject_calls::{SubjectCall, answer_subject_call};
-use authority_model::{Answer, Call, ErrorCause, Message, Output, OutputList, Pending};
+use authority_model::{Answer, Call, ErrorCause, Message, Output, OutputList, Pending, offers};
 use pk_types::{Identity, NoMemory, Text};
-use subject_table::process;
 
 /// Whether a caller may announce a process.
 fn accepts(context: &Context, caller: u32, pid: u32, start: u64) -> bool
@@ -27,7 +25,7 @@ fn accepts(context: &Context, caller: u32, pid: u32, start: u64) -> bool
     if !context.connections.is_live(caller) {
         return false;
     }
-    match process(&context.loaded.world, pid, start) {
+    match context.loaded.world.process(pid, start) {
         Some(row) => context.may_for(caller, row.uid),
         None => false,
     }
@@ -37,51 +35,56 @@ fn accepts(context: &Context, caller: u32, pid: u32, start: u64) -> bool
 fn announce(
     outputs: &mut OutputList,
     context: &Context,
-    say: Say,
+    to: ReplyTo,
     pid: u32,
     start: u64,
 ) -> Result<(), NoMemory>
-    ensures told { (past : List Item) → IsContextOf past context.now → OnOk result (outputs.new ≡ outputs.old ++ answer_of past say.caller context.now.moment context.now.salt (said say) (TheCall.Announce pid start)) }
+    ensures told { (past : List Item) → IsContextOf past context.now → OnOk result (outputs.new ≡ outputs.old ++ answer_of past to.caller context.now.moment context.now.salt (reply_of to) (TheCall.Announce pid start)) }
 {
-    if !accepts(context, say.caller, pid, start) {
-        return say.refuse(outputs, ErrorCause::BadAnnounce);
+    if !accepts(context, to.caller, pid, start) {
+        return to.refuse(outputs, ErrorCause::BadAnnounce);
     }
-    let name = bus_name(context.alloc, say.caller)?;
-    say.say(outputs, Answer::Name(name))
+    let name = bus_name(context.alloc, to.caller)?;
+    to.send(outputs, Answer::Name(name))
 }
 
 /// Cancels a pending check.
-fn cancel_check(outputs: &mut OutputList, say: Say, challenge: &Pending) -> Result<(), NoMemory>
-    ensures told { OnOk result (outputs.new ≡ outputs.old ++ answer_cancel (said say) challenge.now) }
+fn cancel_check(outputs: &mut OutputList, to: ReplyTo, challenge: &Pending) -> Result<(), NoMemory>
+    ensures told { OnOk result (outputs.new ≡ outputs.old ++ answer_cancel (reply_of to) challenge.now) }
 {
     reply_to(outputs, challenge, Answer::Refused(ErrorCause::Cancelled))?;
     cancel_begin(outputs, challenge)?;
-    say.say(outputs, Answer::Done)
+    to.send(outputs, Answer::Done)
 }
 
 /// Answers Cancel.
-fn cancel(outputs: &mut OutputList, context: &Context, say: Say, id: &Text) -> Result<(), NoMemory>
-    ensures told { (past : List Item) → IsContextOf past context.now → OnOk result (outputs.new ≡ outputs.old ++ answer_of past say.caller context.now.moment context.now.salt (said say) (TheCall.Cancel id.now)) }
+fn cancel(
+    outputs: &mut OutputList,
+    context: &Context,
+    to: ReplyTo,
+    id: &Text,
+) -> Result<(), NoMemory>
+    ensures told { (past : List Item) → IsContextOf past context.now → OnOk result (outputs.new ≡ outputs.old ++ answer_of past to.caller context.now.moment context.now.salt (reply_of to) (TheCall.Cancel id.now)) }
 {
-    match context.with_id(say.caller, id) {
-        Some(challenge) => cancel_check(outputs, say, challenge),
-        None => say.refuse(outputs, ErrorCause::NoSuchId),
+    match context.with_id(to.caller, id) {
+        Some(challenge) => cancel_check(outputs, to, challenge),
+        None => to.refuse(outputs, ErrorCause::NoSuchId),
     }
 }
 
 /// Answers a Respond to a pending challenge.
 fn respond_to(
     outputs: &mut OutputList,
-    say: Say,
+    to: ReplyTo,
     identity: Identity,
     challenge: &Pending,
 ) -> Result<(), NoMemory>
-    ensures told { OnOk result (outputs.new ≡ outputs.old ++ answer_respond identity (said say) challenge.now) }
+    ensures told { OnOk result (outputs.new ≡ outputs.old ++ answer_respond identity (reply_of to) challenge.now) }
 {
     if offers(challenge.identities.as_slice(), identity) {
-        say.say(outputs, Answer::Done)
+        to.send(outputs, Answer::Done)
     } else {
-        say.refuse(outputs, ErrorCause::NotOffered)
+        to.refuse(outputs, ErrorCause::NotOffered)
     }
 }
 
@@ -89,18 +92,18 @@ fn respond_to(
 fn respond(
     outputs: &mut OutputList,
     context: &Context,
-    say: Say,
+    to: ReplyTo,
     cookie: &Text,
     identity: Identity,
 ) -> Result<(), NoMemory>
-    ensures told { (past : List Item) → IsContextOf past context.now → OnOk result (outputs.new ≡ outputs.old ++ answer_of past say.caller context.now.moment context.now.salt (said say) (TheCall.Respond cookie.now identity)) }
+    ensures told { (past : List Item) → IsContextOf past context.now → OnOk result (outputs.new ≡ outputs.old ++ answer_of past to.caller context.now.moment context.now.salt (reply_of to) (TheCall.Respond cookie.now identity)) }
 {
-    if !context.is_root(say.caller) {
-        return say.refuse(outputs, ErrorCause::NotPrivileged);
+    if !context.is_root(to.caller) {
+        return to.refuse(outputs, ErrorCause::NotPrivileged);
     }
     match context.with_cookie(cookie) {
-        Some(challenge) => respond_to(outputs, say, identity, challenge),
-        None => say.refuse(outputs, ErrorCause::NoSuchCookie),
+        Some(challenge) => respond_to(outputs, to, identity, challenge),
+        None => to.refuse(outputs, ErrorCause::NoSuchCookie),
     }
 }
 
@@ -108,24 +111,24 @@ fn respond(
 fn enumerate_actions(
     outputs: &mut OutputList,
     context: &Context,
-    say: Say,
+    to: ReplyTo,
     locale: &Text,
 ) -> Result<(), NoMemory>
-    ensures told { (past : List Item) → IsContextOf past context.now → OnOk result (outputs.new ≡ outputs.old ++ answer_of past say.caller context.now.moment context.now.salt (said say) (TheCall.EnumerateActions locale.now)) }
+    ensures told { (past : List Item) → IsContextOf past context.now → OnOk result (outputs.new ≡ outputs.old ++ answer_of past to.caller context.now.moment context.now.salt (reply_of to) (TheCall.EnumerateActions locale.now)) }
 {
     let locale = locale.try_copy()?;
     let load = context.loads;
-    say.say(outputs, Answer::Actions { load, locale })
+    to.send(outputs, Answer::Actions { load, locale })
 }
 
 /// Answers Reload.
-fn reload(outputs: &mut OutputList, context: &Context, say: Say) -> Result<(), NoMemory>
-    ensures told { (past : List Item) → IsContextOf past context.now → OnOk result (outputs.new ≡ outputs.old ++ answer_of past say.caller context.now.moment context.now.salt (said say) TheCall.Reload) }
+fn reload(outputs: &mut OutputList, context: &Context, to: ReplyTo) -> Result<(), NoMemory>
+    ensures told { (past : List Item) → IsContextOf past context.now → OnOk result (outputs.new ≡ outputs.old ++ answer_of past to.caller context.now.moment context.now.salt (reply_of to) TheCall.Reload) }
 {
-    if !context.is_root(say.caller) {
-        return say.refuse(outputs, ErrorCause::NotPrivileged);
+    if !context.is_root(to.caller) {
+        return to.refuse(outputs, ErrorCause::NotPrivileged);
     }
-    say.say(outputs, Answer::Done)?;
+    to.send(outputs, Answer::Done)?;
     outputs.try_push(Output {
         to: 0,
         message: Message::LoadWanted,
@@ -136,14 +139,14 @@ fn reload(outputs: &mut OutputList, context: &Context, say: Say) -> Result<(), N
 pub fn answer_call(
     outputs: &mut OutputList,
     context: &Context,
-    say: Say,
+    to: ReplyTo,
     call: &Call,
 ) -> Result<(), NoMemory>
     requires entries { IsShort context.now.loaded.now.policy.entries }
-    ensures told { (past : List Item) → IsContextOf past context.now → OnOk result (outputs.new ≡ outputs.old ++ answer_of past say.caller context.now.moment context.now.salt (said say) call.now) }
+    ensures told { (past : List Item) → IsContextOf past context.now → OnOk result (outputs.new ≡ outputs.old ++ answer_of past to.caller context.now.moment context.now.salt (reply_of to) call.now) }
 {
     match call {
-        Call::Announce { pid, start } => announce(outputs, context, say, *pid, *start),
+        Call::Announce { pid, start } => announce(outputs, context, to, *pid, *start),
         Call::Check {
             subject,
             action,
@@ -152,7 +155,7 @@ pub fn answer_call(
             cancel,
         } => {
             let check = Check {
-                say,
+                to,
                 subject,
                 action,
                 details,
@@ -161,29 +164,29 @@ pub fn answer_call(
             };
             answer_check(outputs, context, &check)
         }
-        Call::Cancel { cancel: id } => cancel(outputs, context, say, id),
+        Call::Cancel { cancel: id } => cancel(outputs, context, to, id),
         Call::Register { subject, .. } => {
-            answer_subject_call(outputs, context, say, subject, SubjectCall::Register)
+            answer_subject_call(outputs, context, to, subject, SubjectCall::Register)
         }
         Call::Unregister { subject, path } => {
             answer_subject_call(
                 outputs,
                 context,
-                say,
+                to,
                 subject,
                 SubjectCall::Unregister { path },
             )
         }
-        Call::Respond { cookie, identity } => respond(outputs, context, say, cookie, *identity),
-        Call::EnumerateActions { locale } => enumerate_actions(outputs, context, say, locale),
+        Call::Respond { cookie, identity } => respond(outputs, context, to, cookie, *identity),
+        Call::EnumerateActions { locale } => enumerate_actions(outputs, context, to, locale),
         Call::EnumerateGrants { subject } => {
-            answer_subject_call(outputs, context, say, subject, SubjectCall::EnumerateGrants)
+            answer_subject_call(outputs, context, to, subject, SubjectCall::EnumerateGrants)
         }
         Call::RevokeAll { subject } => {
-            answer_subject_call(outputs, context, say, subject, SubjectCall::RevokeAll)
+            answer_subject_call(outputs, context, to, subject, SubjectCall::RevokeAll)
         }
-        Call::RevokeOne { id } => revoke_one(outputs, context, say, id),
-        Call::Reload => reload(outputs, context, say),
-        Call::Wrong { cause } => say.refuse(outputs, *cause),
+        Call::RevokeOne { id } => revoke_one(outputs, context, to, id),
+        Call::Reload => reload(outputs, context, to),
+        Call::Wrong { cause } => to.refuse(outputs, *cause),
     }
 }

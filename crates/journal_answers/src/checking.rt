@@ -1,10 +1,11 @@
 // What a check is answered, or whom it asks.
-ghost use Rattle.std.specs.Prelude.{◌≡◌, ◌++◌, ◌==◌, ◌%◌, [], List, Some, None, OnOk, IfOk, if◌then◌else◌, nat_le, unwrap_or};
+ghost use Rattle.std.specs.Prelude.{◌≡◌, ◌++◌, ◌==◌, [], List, Some, None, OnOk, IfOk, if◌then◌else◌, nat_le, unwrap_or};
 ghost use Rattle.std.specs.Option.{option_copied};
 ghost use Rattle.authority_model.specs.declared.journal.Item.{Item};
 ghost use Rattle.authority_model.specs.declared.message.ErrorCause.{ErrorCause as TheCause};
 ghost use Rattle.authority_model.specs.declared.message.Answer.{Answer as TheAnswer};
 ghost use Rattle.authority_model.specs.Agents.{agent_for};
+ghost use Rattle.authority_model.specs.Interaction.{allows_interaction};
 ghost use Rattle.authority_model.specs.Answers.{answer_check as answer_of, answer_for, answer_known, ask as ask_of, begin_to, tell as told, tell_challenge as told_challenge, refuse as refusal_of};
 ghost use Rattle.authority_model.specs.Challenges.{pending_beside};
 ghost use Rattle.authority_model.specs.Facts.{facts_seen};
@@ -13,34 +14,30 @@ ghost use Rattle.authority_model.specs.Locales.{localized_text};
 ghost use Rattle.authority_model.specs.Rules.{action_of};
 ghost use Rattle.authority_model.specs.Small.{IsShort};
 ghost use Rattle.authority_model.specs.Verdicts.{verdict_of};
-ghost use Rattle.check_decision.specs.Ruling.{ruling_seen};
+ghost use Rattle.check_decision.specs.DecisionRef.{decision_seen};
 ghost use Rattle.journal_answers.specs.Contexts.{IsContextOf};
-ghost use Rattle.journal_answers.specs.Told.{said};
+ghost use Rattle.journal_answers.specs.Told.{reply_of};
 
 use crate::context::Context;
 use crate::finding::pending_of;
-use crate::replies::Say;
+use crate::replies::ReplyTo;
 use crate::trusting::trusts;
 use authority_model::{
-    Action, Agent, Answer, Cookie, ErrorCause, Facts, Message, Output, OutputList, RuleSource,
-    localized,
+    Action, Agent, Answer, Cookie, ErrorCause, Facts, MAX_PENDING, Message, Output, OutputList,
+    RuleSource, allows_interaction, localized,
 };
-use check_decision::{Ruling, allowed, ruling, verdict};
+use check_decision::{DecisionRef, allowed, decision, verdict};
 use pk_types::{Implicit, NoMemory, PairList, Subject, Text, TryCopy};
-use policy_decide::action;
-
-/// How many checks of one user may be pending.
-const MAX_PENDING: usize = 64;
 
 /// What a check asks.
 #[derive(Clone, Copy)]
 pub struct Check<'a> {
     /// Where its answer goes.
-    pub say: Say,
+    pub to: ReplyTo,
     pub subject: &'a Subject,
     pub action: &'a Text,
     pub details: &'a PairList,
-    /// Bit 0 allows that an agent is asked.
+    /// Whether they allow that a user is asked: `authority_model::allows_interaction`.
     pub flags: u32,
     /// The cancellation id; empty for none.
     pub cancel: &'a Text,
@@ -86,7 +83,7 @@ fn begin(
 
 /// Whether the user of a caller has as many pending checks as are allowed.
 fn is_full(context: &Context, caller: u32) -> bool
-    ensures full { (past : List Item) → IsContextOf past context.now → result ≡ nat_le 64 (pending_beside past caller) }
+    ensures full { (past : List Item) → IsContextOf past context.now → result ≡ nat_le MAX_PENDING (pending_beside past caller) }
 {
     match context.connections.uid(caller) {
         Some(uid) => pending_of(context.challenges.as_slice(), uid) >= MAX_PENDING,
@@ -104,32 +101,32 @@ fn ask(
     agent: &Agent,
     value: Implicit,
 ) -> Result<(), NoMemory>
-    ensures told { (past : List Item) → IsContextOf past context.now → OnOk result (outputs.new ≡ outputs.old ++ (if nat_le 64 (pending_beside past check.now.say.caller) then refusal_of (said check.now.say) TheCause.TooManyPending else ask_of past context.now.salt (facts_seen facts.entry) agent.now action.now value check.now.details.now)) }
+    ensures told { (past : List Item) → IsContextOf past context.now → OnOk result (outputs.new ≡ outputs.old ++ (if nat_le MAX_PENDING (pending_beside past check.now.to.caller) then refusal_of (reply_of check.now.to) TheCause.TooManyPending else ask_of past context.now.salt (facts_seen facts.entry) agent.now action.now value check.now.details.now)) }
 {
-    if is_full(context, check.say.caller) {
-        return check.say.refuse(outputs, ErrorCause::TooManyPending);
+    if is_full(context, check.to.caller) {
+        return check.to.refuse(outputs, ErrorCause::TooManyPending);
     }
     outputs.try_push(begin(context, check, action, facts, agent, value)?)
 }
 
-/// Answers a check by the verdict of its ruling.
+/// Answers a check by the verdict of its decision.
 fn tell_verdict(
     outputs: &mut OutputList,
     context: &Context,
-    say: Say,
-    ruling: &Ruling,
+    to: ReplyTo,
+    decision: &DecisionRef,
 ) -> Result<(), NoMemory>
-    ensures told { (past : List Item) → IsContextOf past context.now → OnOk result (outputs.new ≡ outputs.old ++ said say (TheAnswer.Verdict (verdict_of past (ruling_seen ruling.now)))) }
+    ensures told { (past : List Item) → IsContextOf past context.now → OnOk result (outputs.new ≡ outputs.old ++ reply_of to (TheAnswer.Verdict (verdict_of past (decision_seen decision.now)))) }
 {
-    let verdict = verdict(context.alloc, &context.loaded.policy, ruling)?;
-    say.say(outputs, Answer::Verdict(verdict))
+    let verdict = verdict(context.alloc, &context.loaded.policy, decision)?;
+    to.send(outputs, Answer::Verdict(verdict))
 }
 
 /// The agent that a check with these flags may ask.
 fn agent_asked<'a>(context: &Context<'a>, flags: u32, facts: Facts) -> Option<&'a Agent>
-    ensures agent { (past : List Item) → IsContextOf past context.now → option_copied result ≡ (if flags % 2 == 1 then agent_for past (facts_seen facts.entry) else None) }
+    ensures agent { (past : List Item) → IsContextOf past context.now → option_copied result ≡ (if allows_interaction flags then agent_for past (facts_seen facts.entry) else None) }
 {
-    if flags % 2 == 1 {
+    if allows_interaction(flags) {
         context.agent_for(facts)
     } else {
         None
@@ -146,36 +143,39 @@ fn tell_challenge(
     value: Implicit,
     source: RuleSource,
 ) -> Result<(), NoMemory>
-    ensures told { (past : List Item) → IsContextOf past context.now → OnOk result (outputs.new ≡ outputs.old ++ told_challenge past check.now.say.caller context.now.salt (facts_seen facts.entry) action.now check.now.details.now (said check.now.say) value source (check.now.flags % 2 == 1) (agent_for past (facts_seen facts.entry))) }
+    ensures told { (past : List Item) → IsContextOf past context.now → OnOk result (outputs.new ≡ outputs.old ++ told_challenge past check.now.to.caller context.now.salt (facts_seen facts.entry) action.now check.now.details.now (reply_of check.now.to) value source (allows_interaction check.now.flags) (agent_for past (facts_seen facts.entry))) }
 {
     match agent_asked(context, check.flags, facts) {
         Some(agent) => ask(outputs, context, check, action, facts, agent, value),
         None => tell_verdict(
             outputs,
             context,
-            check.say,
-            &Ruling::Challenge(value, source),
+            check.to,
+            &DecisionRef::Challenge(value, source),
         ),
     }
 }
 
-/// Answers a check by its ruling.
+/// Answers a check by its decision.
 fn tell(
     outputs: &mut OutputList,
     context: &Context,
     check: &Check,
     action: &Action,
     facts: Facts,
-    ruling: &Ruling,
+    decision: &DecisionRef,
 ) -> Result<(), NoMemory>
-    ensures told { (past : List Item) → IsContextOf past context.now → OnOk result (outputs.new ≡ outputs.old ++ told past check.now.say.caller context.now.salt (facts_seen facts.entry) action.now check.now.details.now check.now.flags (said check.now.say) (ruling_seen ruling.now)) }
+    ensures told { (past : List Item) → IsContextOf past context.now → OnOk result (outputs.new ≡ outputs.old ++ told past check.now.to.caller context.now.salt (facts_seen facts.entry) action.now check.now.details.now check.now.flags (reply_of check.now.to) (decision_seen decision.now)) }
 {
-    match ruling {
-        Ruling::Challenge(value, source) => {
+    match decision {
+        DecisionRef::Challenge(value, source) => {
             tell_challenge(outputs, context, check, action, facts, *value, *source)
         }
-        Ruling::Root | Ruling::Yes(_) | Ruling::Grant(_) | Ruling::Imply(_) | Ruling::No(_) =>
-            tell_verdict(outputs, context, check.say, ruling),
+        DecisionRef::Root
+        | DecisionRef::Yes(_)
+        | DecisionRef::Grant(_)
+        | DecisionRef::Imply(_)
+        | DecisionRef::No(_) => tell_verdict(outputs, context, check.to, decision),
     }
 }
 
@@ -188,19 +188,19 @@ fn check_for(
     facts: Facts,
 ) -> Result<(), NoMemory>
     requires entries { IsShort context.now.loaded.now.policy.entries }
-    ensures told { (past : List Item) → IsContextOf past context.now → action_of (policy_of past) check.now.action.now ≡ Some action.now → OnOk result (outputs.new ≡ outputs.old ++ answer_for past check.now.say.caller context.now.moment context.now.salt check.now.action.now check.now.details.now check.now.flags (said check.now.say) action.now (facts_seen facts.entry)) }
+    ensures told { (past : List Item) → IsContextOf past context.now → action_of (policy_of past) check.now.action.now ≡ Some action.now → OnOk result (outputs.new ≡ outputs.old ++ answer_for past check.now.to.caller context.now.moment context.now.salt check.now.action.now check.now.details.now check.now.flags (reply_of check.now.to) action.now (facts_seen facts.entry)) }
 {
     if !trusts(context, check, action, facts) {
-        return check.say.refuse(outputs, ErrorCause::NotTrusted);
+        return check.to.refuse(outputs, ErrorCause::NotTrusted);
     }
-    match ruling(
+    match decision(
         context.loaded,
         context.grants,
         &facts,
         context.moment,
         check.action,
     ) {
-        Some(ruling) => tell(outputs, context, check, action, facts, &ruling),
+        Some(decision) => tell(outputs, context, check, action, facts, &decision),
         None => Ok(()),
     }
 }
@@ -213,11 +213,11 @@ fn check_known(
     action: &Action,
 ) -> Result<(), NoMemory>
     requires entries { IsShort context.now.loaded.now.policy.entries }
-    ensures told { (past : List Item) → IsContextOf past context.now → action_of (policy_of past) check.now.action.now ≡ Some action.now → OnOk result (outputs.new ≡ outputs.old ++ answer_known past check.now.say.caller context.now.moment context.now.salt check.now.subject.now check.now.action.now check.now.details.now check.now.flags (said check.now.say) action.now) }
+    ensures told { (past : List Item) → IsContextOf past context.now → action_of (policy_of past) check.now.action.now ≡ Some action.now → OnOk result (outputs.new ≡ outputs.old ++ answer_known past check.now.to.caller context.now.moment context.now.salt check.now.subject.now check.now.action.now check.now.details.now check.now.flags (reply_of check.now.to) action.now) }
 {
     match context.facts(check.subject) {
         Some(facts) => check_for(outputs, context, check, action, facts),
-        None => check.say.refuse(outputs, ErrorCause::UnknownSubject),
+        None => check.to.refuse(outputs, ErrorCause::UnknownSubject),
     }
 }
 
@@ -228,13 +228,13 @@ pub fn answer_check(
     check: &Check,
 ) -> Result<(), NoMemory>
     requires entries { IsShort context.now.loaded.now.policy.entries }
-    ensures told { (past : List Item) → IsContextOf past context.now → OnOk result (outputs.new ≡ outputs.old ++ answer_of past check.now.say.caller context.now.moment context.now.salt check.now.subject.now check.now.action.now check.now.details.now check.now.flags check.now.cancel.now (said check.now.say)) }
+    ensures told { (past : List Item) → IsContextOf past context.now → OnOk result (outputs.new ≡ outputs.old ++ answer_of past check.now.to.caller context.now.moment context.now.salt check.now.subject.now check.now.action.now check.now.details.now check.now.flags check.now.cancel.now (reply_of check.now.to)) }
 {
-    if context.with_id(check.say.caller, check.cancel).is_some() {
-        return check.say.refuse(outputs, ErrorCause::IdInUse);
+    if context.with_id(check.to.caller, check.cancel).is_some() {
+        return check.to.refuse(outputs, ErrorCause::IdInUse);
     }
-    match action(&context.loaded.policy, check.action) {
+    match context.loaded.policy.action(check.action) {
         Some(action) => check_known(outputs, context, check, action),
-        None => check.say.refuse(outputs, ErrorCause::UnknownAction),
+        None => check.to.refuse(outputs, ErrorCause::UnknownAction),
     }
 }

@@ -2,7 +2,7 @@
 ghost use Rattle.std.specs.Prelude.{◌≡◌, ◌++◌, flat_map, OnOk};
 ghost use Rattle.authority_model.specs.Answers.{answer_departed as departed_of};
 
-use crate::replies::{cancel_begin, gone};
+use crate::replies::{cancel_begin, reply_agent_gone};
 use authority_model::{OutputList, Pending};
 use pk_types::NoMemory;
 use std::alloc::Global;
@@ -23,7 +23,7 @@ fn tell_departed(
         return cancel_begin(outputs, challenge);
     }
     if challenge.agent == caller {
-        gone(alloc, outputs, challenge)
+        reply_agent_gone(alloc, outputs, challenge)
     } else {
         Ok(())
     }

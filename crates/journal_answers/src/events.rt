@@ -14,7 +14,7 @@ use crate::calls::answer_call;
 use crate::context::Context;
 use crate::departing::answer_departed;
 use crate::loading::answer_loaded;
-use crate::replies::{Say, tell_changed};
+use crate::replies::{ReplyTo, tell_changed};
 use crate::returning::{answer_error, answer_return};
 use authority_model::{Call, Event, Loaded, Message, Output, OutputList, World};
 use journal_state::State;
@@ -22,14 +22,19 @@ use pk_types::{List, NoMemory, Text};
 use std::alloc::Global;
 
 /// Answers a call.
-fn call(outputs: &mut OutputList, context: &Context, say: Say, call: &Call) -> Result<(), NoMemory>
+fn call(
+    outputs: &mut OutputList,
+    context: &Context,
+    to: ReplyTo,
+    call: &Call,
+) -> Result<(), NoMemory>
     requires entries { IsShort context.now.loaded.now.policy.entries }
-    ensures told { (past : List Item) → IsContextOf past context.now → OnOk result (outputs.new ≡ outputs.old ++ answers past say.caller context.now.moment context.now.salt (Called say.serial say.quiet call.now) None) }
+    ensures told { (past : List Item) → IsContextOf past context.now → OnOk result (outputs.new ≡ outputs.old ++ answers past to.caller context.now.moment context.now.salt (Called to.serial to.quiet call.now) None) }
 {
-    if !context.connections.is_live(say.caller) {
+    if !context.connections.is_live(to.caller) {
         return Ok(());
     }
-    answer_call(outputs, context, say, call)
+    answer_call(outputs, context, to, call)
 }
 
 /// Answers an agent's reply.
@@ -95,12 +100,12 @@ fn answer(
             quiet,
             call: asked,
         } => {
-            let say = Say {
+            let to = ReplyTo {
                 caller,
                 serial: *serial,
                 quiet: *quiet,
             };
-            call(outputs, context, say, asked)
+            call(outputs, context, to, asked)
         }
         Event::Returned { serial } => returned(outputs, context, caller, *serial),
         Event::AgentError { serial, name } => {

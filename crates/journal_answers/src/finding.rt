@@ -6,7 +6,6 @@ ghost use Rattle.authority_model.specs.Challenges.{pending, with_id as with_id_o
 ghost use Rattle.authority_model.specs.Cookies.{cookie_text};
 
 use authority_model::Pending;
-use journal_state::is_cookie_text;
 use pk_types::Text;
 
 /// The first challenge that a caller asked for with this cancellation id.
@@ -32,9 +31,7 @@ pub fn with_id<'a>(challenges: &'a [Pending], caller: u32, id: &Text) -> Option<
 pub fn with_cookie<'a>(challenges: &'a [Pending], cookie: &Text) -> Option<&'a Pending>
     ensures first { option_copied result ≡ find (λ ch. bytes_eq (cookie_text ch.cookie) cookie.now) challenges.now }
 {
-    challenges
-        .iter()
-        .find(|row| is_cookie_text(row.cookie, cookie))
+    challenges.iter().find(|row| row.cookie.has_text(cookie))
 }
 
 /// How many challenges are of checks of a user.

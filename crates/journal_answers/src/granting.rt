@@ -14,21 +14,19 @@ ghost use Rattle.authority_model.specs.Keys.{same_key, key_seen};
 ghost use Rattle.authority_model.specs.Legal.{last_moment};
 ghost use Rattle.journal_state.specs.Current.{current};
 ghost use Rattle.journal_answers.specs.Contexts.{IsContextOf};
-ghost use Rattle.journal_answers.specs.Told.{said};
+ghost use Rattle.journal_answers.specs.Told.{reply_of};
 
 use crate::context::Context;
-use crate::keys::{grant_copy, is_key, uid_of};
-use crate::replies::{Say, tell_changed};
+use crate::replies::{ReplyTo, tell_changed};
 use authority_model::{Answer, ErrorCause, Facts, GrantRow, GrantRowList, KeyRef, OutputList};
-use journal_state::is_grant_text;
-use pk_types::{List, NoMemory, Subject, Text};
+use pk_types::{List, NoMemory, Subject, Text, TryCopy};
 use std::alloc::Global;
 
 /// Whether a grant is for a key and is live at a moment.
 fn is_live_for(grant: &GrantRow, key: KeyRef, moment: u64) -> bool
     ensures live { result ≡ (same_key grant.now.key (key_seen key.entry) && is_live_at moment grant.now) }
 {
-    is_key(&grant.key, key) && moment < grant.expires
+    grant.key.is_same(key) && grant.is_live_at(moment)
 }
 
 /// Puts a copy of such a grant at the end.
@@ -41,7 +39,7 @@ fn put_live(
     ensures put { OnOk result (rows.new ≡ rows.old ++ (if same_key grant.now.key (key_seen key.entry) && is_live_at moment grant.now then grant.now ∷ [] else [])) }
 {
     if is_live_for(grant, key, moment) {
-        rows.try_push(grant_copy(grant)?)
+        rows.try_push(grant.try_copy()?)
     } else {
         Ok(())
     }
@@ -74,32 +72,34 @@ fn has_live(grants: &[GrantRow], key: KeyRef, moment: u64) -> bool
 fn with_text<'a>(grants: &'a [GrantRow], id: &Text, moment: u64) -> Option<&'a GrantRow>
     ensures found { option_copied result ≡ find (λ g. bytes_eq id.now (grant_text g.id) && is_live_at moment g) grants.now }
 {
-    grants.iter().find(|grant| is_grant_text(grant.id, id) && moment < grant.expires)
+    grants
+        .iter()
+        .find(|grant| grant.is_named(id) && grant.is_live_at(moment))
 }
 
 /// Answers EnumerateGrants for a subject of these facts.
 pub fn enumerate_grants(
     outputs: &mut OutputList,
     context: &Context,
-    say: Say,
+    to: ReplyTo,
     facts: Facts,
 ) -> Result<(), NoMemory>
-    ensures told { (past : List Item) → IsContextOf past context.now → OnOk result (outputs.new ≡ outputs.old ++ said say (TheAnswer.Grants (live_grants_of past context.now.moment (facts_seen facts.entry).key))) }
+    ensures told { (past : List Item) → IsContextOf past context.now → OnOk result (outputs.new ≡ outputs.old ++ reply_of to (TheAnswer.Grants (live_grants_of past context.now.moment (facts_seen facts.entry).key))) }
 {
     let rows = live_grants(context.alloc, context.grants, facts.key, context.moment)?;
-    say.say(outputs, Answer::Grants(rows))
+    to.send(outputs, Answer::Grants(rows))
 }
 
 /// Answers RevokeAll for a subject of these facts.
 pub fn revoke_all(
     outputs: &mut OutputList,
     context: &Context,
-    say: Say,
+    to: ReplyTo,
     facts: Facts,
 ) -> Result<(), NoMemory>
-    ensures told { (past : List Item) → IsContextOf past context.now → OnOk result (outputs.new ≡ outputs.old ++ (said say TheAnswer.Done ++ (if list_any (λ g. same_key g.key (facts_seen facts.entry).key && is_live_at context.now.moment g) (kept past) then changed_of past else []))) }
+    ensures told { (past : List Item) → IsContextOf past context.now → OnOk result (outputs.new ≡ outputs.old ++ (reply_of to TheAnswer.Done ++ (if list_any (λ g. same_key g.key (facts_seen facts.entry).key && is_live_at context.now.moment g) (kept past) then changed_of past else []))) }
 {
-    say.say(outputs, Answer::Done)?;
+    to.send(outputs, Answer::Done)?;
     if has_live(context.grants, facts.key, context.moment) {
         tell_changed(context.alloc, outputs, context.connections)
     } else {
@@ -111,15 +111,15 @@ pub fn revoke_all(
 fn revoke(
     outputs: &mut OutputList,
     context: &Context,
-    say: Say,
+    to: ReplyTo,
     grant: &GrantRow,
 ) -> Result<(), NoMemory>
-    ensures told { (past : List Item) → IsContextOf past context.now → OnOk result (outputs.new ≡ outputs.old ++ answer_revoke past say.caller (said say) grant.now) }
+    ensures told { (past : List Item) → IsContextOf past context.now → OnOk result (outputs.new ≡ outputs.old ++ answer_revoke past to.caller (reply_of to) grant.now) }
 {
-    if !context.may_for(say.caller, uid_of(&grant.key)) {
-        return say.refuse(outputs, ErrorCause::NotYours);
+    if !context.may_for(to.caller, grant.key.uid()) {
+        return to.refuse(outputs, ErrorCause::NotYours);
     }
-    say.say(outputs, Answer::Done)?;
+    to.send(outputs, Answer::Done)?;
     tell_changed(context.alloc, outputs, context.connections)
 }
 
@@ -127,13 +127,13 @@ fn revoke(
 pub fn revoke_one(
     outputs: &mut OutputList,
     context: &Context,
-    say: Say,
+    to: ReplyTo,
     id: &Text,
 ) -> Result<(), NoMemory>
-    ensures told { (past : List Item) → IsContextOf past context.now → OnOk result (outputs.new ≡ outputs.old ++ answer_call past say.caller context.now.moment context.now.salt (said say) (TheCall.RevokeOne id.now)) }
+    ensures told { (past : List Item) → IsContextOf past context.now → OnOk result (outputs.new ≡ outputs.old ++ answer_call past to.caller context.now.moment context.now.salt (reply_of to) (TheCall.RevokeOne id.now)) }
 {
     match with_text(context.grants, id, context.moment) {
-        Some(grant) => revoke(outputs, context, say, grant),
-        None => say.refuse(outputs, ErrorCause::NoSuchGrant),
+        Some(grant) => revoke(outputs, context, to, grant),
+        None => to.refuse(outputs, ErrorCause::NoSuchGrant),
     }
 }

@@ -11,7 +11,6 @@ mod departing;
 mod events;
 mod finding;
 mod granting;
-mod keys;
 mod loading;
 mod names;
 mod registering;

@@ -2,12 +2,11 @@
 ghost use Rattle.std.specs.Prelude.{◌≡◌, ◌++◌, flat_map, OnOk};
 ghost use Rattle.authority_model.specs.Answers.{answer_loaded as loaded_of};
 
-use crate::replies::{cancel_begin, gone, reply_to};
+use crate::replies::{cancel_begin, reply_agent_gone, reply_to};
 use authority_model::{Answer, OutputList, Pending, Reason, World};
 use check_decision::no;
 use pk_types::NoMemory;
 use std::alloc::Global;
-use subject_table::lists_key;
 
 /// Answers a check whose subject or whose agent a world does not list.
 fn tell_loaded(
@@ -18,11 +17,11 @@ fn tell_loaded(
 ) -> Result<(), NoMemory>
     ensures told { OnOk result (outputs.new ≡ outputs.old ++ loaded_of world.now challenge.now) }
 {
-    if lists_key(world, &challenge.key) {
-        if lists_key(world, &challenge.agent_key) {
+    if world.lists(&challenge.key) {
+        if world.lists(&challenge.agent_key) {
             return Ok(());
         }
-        return gone(alloc, outputs, challenge);
+        return reply_agent_gone(alloc, outputs, challenge);
     }
     let verdict = no(alloc, Reason::SubjectGone);
     reply_to(outputs, challenge, Answer::Verdict(verdict))?;

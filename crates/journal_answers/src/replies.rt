@@ -2,9 +2,9 @@
 ghost use Rattle.std.specs.Prelude.{◌≡◌, ◌++◌, ◌∷◌, [], List, map, OnOk};
 ghost use Rattle.authority_model.specs.declared.message.Message.{Message as TheMessage};
 ghost use Rattle.authority_model.specs.declared.journal.Item.{Item};
-ghost use Rattle.authority_model.specs.Answers.{reply as reply_of, refuse as refusal_of, reply_to as reply_to_check, cancel_begin as cancel_begin_of, gone as gone_of, changed as changed_of};
+ghost use Rattle.authority_model.specs.Answers.{reply as reply_by, refuse as refusal_of, reply_to as reply_to_check, cancel_begin as cancel_begin_of, reply_agent_gone as agent_gone_of, changed as changed_of};
 ghost use Rattle.journal_state.specs.Connected.{Tells};
-ghost use Rattle.journal_answers.specs.Told.{said};
+ghost use Rattle.journal_answers.specs.Told.{reply_of};
 
 use authority_model::{Answer, ErrorCause, Message, Output, OutputList, Pending, Reason};
 use check_decision::no;
@@ -14,7 +14,7 @@ use std::alloc::Global;
 
 /// Where the answer to a call goes.
 #[derive(Clone, Copy)]
-pub struct Say {
+pub struct ReplyTo {
     pub caller: u32,
     pub serial: u32,
     /// The caller wants no reply.
@@ -29,7 +29,7 @@ fn reply(
     quiet: bool,
     answer: Answer,
 ) -> Result<(), NoMemory>
-    ensures reply { OnOk result (outputs.new ≡ outputs.old ++ reply_of caller serial quiet answer) }
+    ensures reply { OnOk result (outputs.new ≡ outputs.old ++ reply_by caller serial quiet answer) }
 {
     if quiet || serial == 0 {
         return Ok(());
@@ -40,19 +40,19 @@ fn reply(
     })
 }
 
-impl Say {
+impl ReplyTo {
     /// Answers the call.
-    pub fn say(self, outputs: &mut OutputList, answer: Answer) -> Result<(), NoMemory>
-        ensures said { OnOk result (outputs.new ≡ outputs.old ++ said self answer) }
+    pub fn send(self, outputs: &mut OutputList, answer: Answer) -> Result<(), NoMemory>
+        ensures sent { OnOk result (outputs.new ≡ outputs.old ++ reply_of self answer) }
     {
         reply(outputs, self.caller, self.serial, self.quiet, answer)
     }
 
     /// Refuses the call for this cause.
     pub fn refuse(self, outputs: &mut OutputList, cause: ErrorCause) -> Result<(), NoMemory>
-        ensures refused { OnOk result (outputs.new ≡ outputs.old ++ refusal_of (said self) cause) }
+        ensures refused { OnOk result (outputs.new ≡ outputs.old ++ refusal_of (reply_of self) cause) }
     {
-        self.say(outputs, Answer::Refused(cause))
+        self.send(outputs, Answer::Refused(cause))
     }
 }
 
@@ -88,8 +88,12 @@ pub fn cancel_begin(outputs: &mut OutputList, challenge: &Pending) -> Result<(),
 }
 
 /// Answers the check that opened a challenge, whose agent is gone.
-pub fn gone(alloc: Global, outputs: &mut OutputList, challenge: &Pending) -> Result<(), NoMemory>
-    ensures told { OnOk result (outputs.new ≡ outputs.old ++ gone_of challenge.now) }
+pub fn reply_agent_gone(
+    alloc: Global,
+    outputs: &mut OutputList,
+    challenge: &Pending,
+) -> Result<(), NoMemory>
+    ensures told { OnOk result (outputs.new ≡ outputs.old ++ agent_gone_of challenge.now) }
 {
     reply_to(
         outputs,
@@ -106,7 +110,7 @@ pub fn tell_changed(
 ) -> Result<(), NoMemory>
     ensures told { (past : List Item) → Tells connections.now past → OnOk result (outputs.new ≡ outputs.old ++ changed_of past) }
 {
-    let callers = connections.live_callers(alloc)?;
+    let callers = connections.live_connections(alloc)?;
     changed(outputs, callers.as_slice())
 }
 

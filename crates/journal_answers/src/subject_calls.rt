@@ -4,12 +4,12 @@ ghost use Rattle.authority_model.specs.declared.journal.Item.{Item};
 ghost use Rattle.authority_model.specs.Answers.{for_known};
 ghost use Rattle.authority_model.specs.Facts.{facts_seen};
 ghost use Rattle.journal_answers.specs.Contexts.{IsContextOf};
-ghost use Rattle.journal_answers.specs.Told.{followed, said};
+ghost use Rattle.journal_answers.specs.Told.{answer_permitted, reply_of};
 
 use crate::context::Context;
 use crate::granting::{enumerate_grants, revoke_all};
 use crate::registering::{register, unregister};
-use crate::replies::Say;
+use crate::replies::ReplyTo;
 use authority_model::{ErrorCause, Facts, OutputList};
 use pk_types::{NoMemory, Subject, Text};
 
@@ -26,17 +26,17 @@ pub enum SubjectCall<'a> {
 fn follow(
     outputs: &mut OutputList,
     context: &Context,
-    say: Say,
+    to: ReplyTo,
     call: SubjectCall,
     facts: Facts,
 ) -> Result<(), NoMemory>
-    ensures told { (past : List Item) → IsContextOf past context.now → OnOk result (outputs.new ≡ outputs.old ++ followed past context.now.moment say call.entry (facts_seen facts.entry)) }
+    ensures told { (past : List Item) → IsContextOf past context.now → OnOk result (outputs.new ≡ outputs.old ++ answer_permitted past context.now.moment to call.entry (facts_seen facts.entry)) }
 {
     match call {
-        SubjectCall::Register => register(outputs, context, say, facts),
-        SubjectCall::Unregister { path } => unregister(outputs, context, say, facts, path),
-        SubjectCall::EnumerateGrants => enumerate_grants(outputs, context, say, facts),
-        SubjectCall::RevokeAll => revoke_all(outputs, context, say, facts),
+        SubjectCall::Register => register(outputs, context, to, facts),
+        SubjectCall::Unregister { path } => unregister(outputs, context, to, facts, path),
+        SubjectCall::EnumerateGrants => enumerate_grants(outputs, context, to, facts),
+        SubjectCall::RevokeAll => revoke_all(outputs, context, to, facts),
     }
 }
 
@@ -44,17 +44,17 @@ fn follow(
 pub fn answer_subject_call(
     outputs: &mut OutputList,
     context: &Context,
-    say: Say,
+    to: ReplyTo,
     subject: &Subject,
     call: SubjectCall,
 ) -> Result<(), NoMemory>
-    ensures told { (past : List Item) → IsContextOf past context.now → OnOk result (outputs.new ≡ outputs.old ++ for_known past say.caller subject.now (said say) (followed past context.now.moment say call.entry)) }
+    ensures told { (past : List Item) → IsContextOf past context.now → OnOk result (outputs.new ≡ outputs.old ++ for_known past to.caller subject.now (reply_of to) (answer_permitted past context.now.moment to call.entry)) }
 {
     let Some(facts) = context.facts(subject) else {
-        return say.refuse(outputs, ErrorCause::UnknownSubject);
+        return to.refuse(outputs, ErrorCause::UnknownSubject);
     };
-    if !context.may_for(say.caller, facts.uid) {
-        return say.refuse(outputs, ErrorCause::NotYours);
+    if !context.may_for(to.caller, facts.uid) {
+        return to.refuse(outputs, ErrorCause::NotYours);
     }
-    follow(outputs, context, say, call, facts)
+    follow(outputs, context, to, call, facts)
 }

@@ -1,4 +1,4 @@
-// Each public call once, with ample memory. What is wanted is said by the reference manual of polkit
+// Each public call once, with ample memory. What is wanted is reply_of by the reference manual of polkit
 // and by this project's own interface.
 use crate::{load_outputs, outputs};
 use authority_model::{Answer, Call, Entry, ErrorCause, Event, Loaded, Message, OutputList};

@@ -25,9 +25,9 @@ fn owner(context: &Context, caller: u32, id: &Text, action: &Action) -> bool
 
 /// Whether the caller of a check may ask about a subject of these facts, and hand in its details.
 pub fn trusts(context: &Context, check: &Check, action: &Action, facts: Facts) -> bool
-    ensures trusts { (past : List Item) → IsContextOf past context.now → action_of (policy_of past) check.now.action.now ≡ Some action.now → result ≡ trusted past check.now.say.caller (facts_seen facts.entry) check.now.details.now check.now.action.now }
+    ensures trusts { (past : List Item) → IsContextOf past context.now → action_of (policy_of past) check.now.action.now ≡ Some action.now → result ≡ trusted past check.now.to.caller (facts_seen facts.entry) check.now.details.now check.now.action.now }
 {
-    let caller = check.say.caller;
+    let caller = check.to.caller;
     let own = match check.details.as_slice() {
         [] => context.may_for(caller, facts.uid),
         _ => context.is_root(caller),

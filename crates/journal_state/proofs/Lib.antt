@@ -10,4 +10,3 @@ pub mod Within
 pub mod Deciding
 pub mod Current
 pub mod Revoking
-pub mod Endings

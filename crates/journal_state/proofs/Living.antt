@@ -13,7 +13,7 @@ use Rattle.std.specs.Ordering.{nat_cmp}
 use Rattle.std.specs.BTreeMap.{is_at}
 use Rattle.std.specs.BTreeSet.{BTreeSet}
 use Rattle.authority_model.specs.declared.journal.Item.{Item}
-use Rattle.authority_model.specs.Peers.{uid_of, departed, live, connected, live_callers}
+use Rattle.authority_model.specs.Peers.{uid_of, departed, live, connected, live_connections}
 use Rattle.journal_state.specs.declared.connections.Connection.{Connection}
 use Rattle.journal_state.specs.Connected.{connection, row_of, Tells, live_rows}
 use Rattle.journal_state.proofs.Rising.{connected_sorted, connected_has}
@@ -44,5 +44,5 @@ live_are rows past told (e ∷ es) found =
     ∙ ap (λ ns. if live past e.0 then e.0 ∷ ns else ns) (live_are rows past told es (All-tail (λ e. row_of rows e.0 ≡ Some e.1) e es found))
 
 -- the live callers by rising number are those of the rows
-pub live_rows_are : (rows : List (ℕ × Connection)) (past : List Item) → IsStrictlySortedBy nat_cmp (keys_of rows) → All (λ e. row_of rows e.0 ≡ Some e.1) rows → Tells rows past → live_rows rows ≡ live_callers past
+pub live_rows_are : (rows : List (ℕ × Connection)) (past : List Item) → IsStrictlySortedBy nat_cmp (keys_of rows) → All (λ e. row_of rows e.0 ≡ Some e.1) rows → Tells rows past → live_rows rows ≡ live_connections past
 live_rows_are rows past sorted found told = live_are rows past told rows found ∙ ap (λ ns. filter (live past) ns) (numbers_are rows past sorted told)

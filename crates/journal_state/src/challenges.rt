@@ -130,10 +130,7 @@ fn change(
     take_out(rows, entry, ending);
     respond(rows, response);
     if let Some(row) = opened {
-        match rows.push(row) {
-            Ok(()) => {}
-            Err(_) => unreachable!(),
-        }
+        rows.push_reserved(row);
     }
 }
 

@@ -7,7 +7,7 @@ ghost use Rattle.authority_model.specs.declared.load.Loaded.{Loaded};
 ghost use Rattle.authority_model.specs.declared.journal.Item.{Item};
 ghost use Rattle.authority_model.specs.Items.{world_of};
 ghost use Rattle.authority_model.specs.Lists.{when};
-ghost use Rattle.authority_model.specs.Peers.{uid_of, live, announced, is_root, may_for, live_callers, uid_given, is_depart, call_in, process_named};
+ghost use Rattle.authority_model.specs.Peers.{uid_of, live, announced, is_root, may_for, live_connections, uid_given, is_depart, call_in, process_named};
 ghost use Rattle.journal_state.specs.Connected.{Tells, row_of, row_after, may_announce, live_rows};
 
 use authority_model::{Call, Entry, Event, World};
@@ -15,7 +15,6 @@ use pk_types::NoMemory;
 use std::alloc::Global;
 use std::collections::BTreeMap;
 use std::marker::Model;
-use subject_table::process;
 
 /// What is known of a caller that connected.
 #[derive(Clone, Copy, Debug, PartialEq, Eq)]
@@ -82,7 +81,7 @@ fn may_announce(world: &World, row: Connection, pid: u32, start: u64) -> bool
     if row.departed {
         return false;
     }
-    match process(world, pid, start) {
+    match world.process(pid, start) {
         Some(found) => row.uid == found.uid || row.uid == 0,
         None => false,
     }
@@ -204,21 +203,27 @@ impl Connections {
     }
 
     /// The live callers, by rising number.
-    pub fn live_callers(&self, alloc: Global) -> Result<Vec<u32>, NoMemory>
-        ensures live { (past : List Item) → Tells self.now past → IfOk result (λ callers. callers.items ≡ live_callers past) }
+    pub fn live_connections(&self, alloc: Global) -> Result<Vec<u32>, NoMemory>
+        ensures live { (past : List Item) → Tells self.now past → IfOk result (λ callers. callers.items ≡ live_connections past) }
     {
         live_in(alloc, &self.rows)
     }
 
-    /// Carries the connections on by one entry, in the world that was in force before it.
+    /// Carries the connections on by one entry, in the world that was in force before it. A row is
+    /// written only where it changes.
     ///
     /// A refusal leaves them as they were.
     pub fn after(&mut self, world: &World, entry: &Entry) -> Result<(), NoMemory>
         ensures ok { (past : List Item) (loaded : Option Loaded) → Tells self.old past → world.now ≡ world_of past → OnOk result (Tells self.new (record { entry = entry.now; loaded = loaded } ∷ past)) }
         ensures err { OnErr result (self.new ≡ self.old) }
     {
-        if let Some(row) = row_after(world, self.row(entry.caller), &entry.event) {
-            self.rows.insert(entry.caller, row)?;
+        let row = self.row(entry.caller);
+        let next = row_after(world, row, &entry.event);
+        if next == row {
+            return Ok(());
+        }
+        if let Some(next) = next {
+            self.rows.insert(entry.caller, next)?;
         }
         Ok(())
     }

@@ -8,11 +8,9 @@ ghost use Rattle.journal_state.specs.Connected.{Tells};
 ghost use Rattle.journal_state.specs.Ended.{IsEnding, ends_caller, ends_registration, ends_key, unregistered_seen, unregistered_by, unregistered_in};
 
 use crate::connections::Connections;
-use crate::keys::is_key;
 use crate::subjects::key_of;
 use authority_model::{Call, Entry, Event, Key, KeyRef, Loaded, World};
 use pk_types::Text;
-use subject_table::lists_key;
 
 /// The key and the path of a registration.
 #[derive(Clone, Copy)]
@@ -114,7 +112,7 @@ impl Ending<'_> {
             return false;
         }
         match self.unregisters {
-            Some(gone) => gone.path.is_same(path) && is_key(key, gone.key),
+            Some(gone) => gone.path.is_same(path) && key.is_same(gone.key),
             None => false,
         }
     }
@@ -124,7 +122,7 @@ impl Ending<'_> {
         ensures ends { result ≡ ends_key self.entry key.now }
     {
         match self.loads {
-            Some(world) => !lists_key(world, key),
+            Some(world) => !world.lists(key),
             None => false,
         }
     }

@@ -10,11 +10,10 @@ ghost use Rattle.journal_state.specs.States.{IsStateOf};
 
 use crate::challenges::Challenges;
 use crate::grants::Grants;
-use crate::keys::copied;
 use crate::state::State;
-use authority_model::{Entry, Event, GrantRow, Loaded, Pending};
+use authority_model::{Entry, Event, GRANT_SECONDS, GrantRow, Loaded, Pending};
 use check_decision::return_verdict;
-use pk_types::NoMemory;
+use pk_types::{NoMemory, TryCopy};
 
 /// The pending challenge that an entry, as a return, closes.
 fn returned<'a>(challenges: &'a Challenges, entry: &Entry) -> Option<&'a Pending>
@@ -26,7 +25,7 @@ fn returned<'a>(challenges: &'a Challenges, entry: &Entry) -> Option<&'a Pending
     }
 }
 
-/// The grant of this number that a challenge makes at a moment, for 300 seconds.
+/// The grant of this number that a challenge makes at a moment.
 fn row_of(challenge: &Pending, moment: u64, id: u64) -> Result<GrantRow, NoMemory>
     requires moment { moment ≤ 2 ^ 62 }
     ensures row { IfOk result (λ row. row ≡ grant_row challenge.now moment id) }
@@ -34,9 +33,9 @@ fn row_of(challenge: &Pending, moment: u64, id: u64) -> Result<GrantRow, NoMemor
     Ok(GrantRow {
         id,
         action: challenge.action.try_copy()?,
-        key: copied(&challenge.key)?,
+        key: challenge.key.try_copy()?,
         obtained: moment,
-        expires: moment + 300,
+        expires: moment + GRANT_SECONDS,
     })
 }
 

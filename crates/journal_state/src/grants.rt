@@ -54,7 +54,7 @@ fn ends(revocation: Option<Revocation>, ending: Ending, row: &GrantRow) -> bool
 fn stays(moment: u64, revocation: Option<Revocation>, ending: Ending, row: &GrantRow) -> bool
     ensures stays { result ≡ (is_live_at moment row.now && not (ends_row revocation.entry ending.entry row.now)) }
 {
-    moment < row.expires && !ends(revocation, ending, row)
+    row.is_live_at(moment) && !ends(revocation, ending, row)
 }
 
 /// Takes out the grants that are over at a moment, and those that end.
@@ -80,10 +80,7 @@ fn change(
 {
     take_out(rows, moment, revocation, ending);
     if let Some(row) = made {
-        match rows.push(row) {
-            Ok(()) => {}
-            Err(_) => unreachable!(),
-        }
+        rows.push_reserved(row);
     }
 }
 

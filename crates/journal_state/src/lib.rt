@@ -6,11 +6,9 @@
 
 mod challenges;
 mod connections;
-mod cookies;
 mod ending;
 mod granting;
 mod grants;
-mod keys;
 mod names;
 mod opening;
 mod registrations;
@@ -25,7 +23,6 @@ mod tests;
 
 pub use challenges::Challenges;
 pub use connections::{Connection, Connections};
-pub use cookies::{is_cookie_text, is_grant_text};
 pub use grants::Grants;
 pub use registrations::Registrations;
 pub use sent::SentCounts;

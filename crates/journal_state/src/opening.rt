@@ -9,13 +9,12 @@ ghost use Rattle.authority_model.specs.Challenges.{begun as begun_by, begun_in a
 ghost use Rattle.journal_state.specs.Opening.{asked_seen, begun_seen, IsOpenedBy};
 ghost use Rattle.journal_state.specs.States.{IsStateOf};
 
-use crate::keys::{copied, owned};
 use crate::state::State;
 use crate::subjects::facts_of;
 use authority_model::{
     Agent, Call, Cookie, Entry, Event, Facts, Loaded, Message, Output, Pending, RuleSource, World,
 };
-use pk_types::{IdentityList, Implicit, NoMemory, Subject, Text};
+use pk_types::{IdentityList, Implicit, NoMemory, Subject, Text, TryCopy};
 use policy_decide::implicit;
 
 /// What a check asks.
@@ -118,7 +117,7 @@ fn challenge(
         serial: opening.asked.serial,
         quiet: opening.asked.quiet,
         cancel: opening.asked.cancel.try_copy()?,
-        key: owned(facts.key)?,
+        key: facts.key.try_own()?,
         action: opening.asked.action.try_copy()?,
         value: value.0,
         source: value.1,
@@ -126,7 +125,7 @@ fn challenge(
         identities: opening.begun.identities.try_copy()?,
         agent: agent.caller,
         agent_serial: state.sent.next(agent.caller)?,
-        agent_key: copied(&agent.key)?,
+        agent_key: agent.key.try_copy()?,
         agent_path: agent.path.try_copy()?,
         answered: None,
     })

@@ -14,13 +14,11 @@ ghost use Rattle.journal_state.specs.Ended.{ends_agent};
 
 use crate::connections::Connections;
 use crate::ending::Ending;
-use crate::keys::{is_key, owned};
 use crate::subjects::facts_of;
 use authority_model::{Agent, Call, Entry, Event, Facts, KeyRef, World};
 use pk_types::{NoMemory, Text};
 use std::alloc::Global;
 use std::marker::Model;
-use subject_table::session;
 
 /// The registrations in force, the oldest first.
 #[derive(Drop)]
@@ -42,7 +40,7 @@ impl Model for Registrations {
 fn find<'a>(rows: &'a [Agent], key: KeyRef) -> Option<&'a Agent>
     ensures agent { option_copied result ≡ agent_of (key_seen key.entry) rows.now }
 {
-    rows.iter().find(|row| is_key(&row.key, key))
+    rows.iter().find(|row| row.key.is_same(key))
 }
 
 /// The registration that a live caller makes for a subject of these facts, if it may.
@@ -66,7 +64,7 @@ fn made_for(
         caller,
         path: path.try_copy()?,
         locale: locale.try_copy()?,
-        key: owned(facts.key)?,
+        key: facts.key.try_own()?,
     }))
 }
 
@@ -133,10 +131,7 @@ fn change(rows: &mut Vec<Agent>, ending: Ending, made: Option<Agent>)
 {
     take_out(rows, ending);
     if let Some(agent) = made {
-        match rows.push(agent) {
-            Ok(()) => {}
-            Err(_) => unreachable!(),
-        }
+        rows.push_reserved(agent);
     }
 }
 
@@ -179,7 +174,7 @@ impl Registrations {
     fn of_session(&self, world: &World, id: Option<&Text>) -> Option<&Agent>
         ensures agent { option_copied result ≡ option_and_then (λ s. agent_of (Key.Session s.id s.uid) self.now.items) (option_and_then (session_row world.now) (option_copied id.entry)) }
     {
-        let row = session(world, id?)?;
+        let row = world.session(id?)?;
         self.of_key(KeyRef::Session {
             id: &row.id,
             uid: row.uid,

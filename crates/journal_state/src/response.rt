@@ -4,13 +4,11 @@ ghost use Rattle.std.specs.List.{list_any};
 ghost use Rattle.std.specs.Option.{option_map, option_and_then};
 ghost use Rattle.authority_model.specs.declared.journal.Item.{Item};
 ghost use Rattle.authority_model.specs.Peers.{call_in, live, is_root};
-ghost use Rattle.authority_model.specs.Values.{same_identity};
 ghost use Rattle.journal_state.specs.Connected.{Tells};
 ghost use Rattle.journal_state.specs.Closed.{response_seen, response_of, answer_by, marked};
 
 use crate::connections::Connections;
-use crate::cookies::is_cookie_text;
-use authority_model::{Call, Entry, Event, Pending};
+use authority_model::{Call, Entry, Event, Pending, offers};
 use pk_types::{Identity, Text};
 
 /// A response: the text of a cookie and the identity that was authenticated.
@@ -46,29 +44,12 @@ pub fn response_in<'a>(connections: &Connections, entry: &'a Entry) -> Option<Re
     }
 }
 
-fn is_same(a: Identity, b: Identity) -> bool
-    ensures same { result ≡ same_identity a b }
-{
-    match (a, b) {
-        (Identity::User(a), Identity::User(b)) => a == b,
-        (Identity::Group(a), Identity::Group(b)) => a == b,
-        _ => false,
-    }
-}
-
-/// Whether an identity stands among these.
-fn stands_among(identity: Identity, offered: &[Identity]) -> bool
-    ensures among { result ≡ list_any (same_identity identity) offered.now }
-{
-    offered.iter().any(|other| is_same(identity, *other))
-}
-
 /// The identity with which a response answers a challenge.
 fn answer(row: &Pending, response: Response) -> Option<Identity>
     ensures answer { result ≡ answer_by row.now (response_seen response.entry) }
 {
-    if is_cookie_text(row.cookie, response.cookie)
-        && stands_among(response.identity, row.identities.as_slice())
+    if row.cookie.has_text(response.cookie)
+        && offers(row.identities.as_slice(), response.identity)
     {
         Some(response.identity)
     } else {

@@ -4,17 +4,14 @@ ghost use Rattle.std.specs.Option.{option_map_or};
 ghost use Rattle.authority_model.specs.declared.journal.Item.{Item};
 ghost use Rattle.authority_model.specs.declared.verdict.GrantRow.{GrantRow};
 ghost use Rattle.authority_model.specs.Items.{world_of};
-ghost use Rattle.authority_model.specs.Keys.{uid_of_key};
 ghost use Rattle.authority_model.specs.Peers.{call_in};
 ghost use Rattle.authority_model.specs.Grants.{revoke_of, revokes};
 ghost use Rattle.journal_state.specs.Connected.{Tells};
 ghost use Rattle.journal_state.specs.Revoked.{names_grant, may_revoke, revoked_by};
 
 use crate::connections::Connections;
-use crate::cookies::is_grant_text;
-use crate::keys::is_key;
 use crate::subjects::key_of;
-use authority_model::{Call, Entry, Event, GrantRow, Key, KeyRef, World};
+use authority_model::{Call, Entry, Event, GrantRow, KeyRef, World};
 use pk_types::Text;
 
 /// Which grants are revoked: that of a text, or all of a key.
@@ -89,24 +86,14 @@ pub fn revocation_of<'a>(
     )
 }
 
-/// The uid in a key.
-fn uid_of(key: &Key) -> u32
-    ensures uid { result ≡ uid_of_key key.now }
-{
-    match key {
-        Key::Process { uid, .. } => *uid,
-        Key::Session { uid, .. } => *uid,
-    }
-}
-
 impl Revoked<'_> {
     /// Whether a grant is among those that are revoked.
     fn names(self, row: &GrantRow) -> bool
         ensures names { result ≡ names_grant row.now self.entry }
     {
         match self {
-            Revoked::One(text) => is_grant_text(row.id, text),
-            Revoked::AllOf(key) => is_key(&row.key, key),
+            Revoked::One(text) => row.is_named(text),
+            Revoked::AllOf(key) => row.key.is_same(key),
         }
     }
 }
@@ -116,7 +103,7 @@ impl Revocation<'_> {
     pub fn is_of(self, row: &GrantRow) -> bool
         ensures revoked { result ≡ revoked_by row.now self.entry }
     {
-        let owner = uid_of(&row.key);
+        let owner = row.key.uid();
         (self.uid == owner || self.uid == 0) && self.grants.names(row)
     }
 }

@@ -20,18 +20,13 @@ fn load(alloc: Global) -> Result<Loaded, Fail>
     ensures entries { IfOk result (λ l. IsShort l.policy.entries) }
 {
     let mut loaded = Loaded::empty(alloc);
-    loaded.policy.actions.try_push(Action {
-        id: ActionId::read(&text(alloc, "a.keep")?)?,
-        descriptions: List::new(alloc),
-        messages: List::new(alloc),
-        vendor: Text::new(alloc),
-        vendor_url: Text::new(alloc),
-        icon: Text::new(alloc),
-        any: Implicit::AuthSelfKeep,
-        inactive: Implicit::No,
-        active: Implicit::No,
-        annotations: List::new(alloc),
-    })?;
+    loaded.policy.actions.try_push(Action::plain(
+        alloc,
+        ActionId::read(&text(alloc, "a.keep")?)?,
+        Implicit::AuthSelfKeep,
+        Implicit::No,
+        Implicit::No,
+    ))?;
     loaded.world.processes.try_push(Process {
         pid: 50,
         start: 7,
@@ -152,7 +147,7 @@ fn seen(alloc: Global, state: &State) -> Result<(bool, [u64; 7]), Fail> {
     Ok((
         state.connections.announced(1) == Some((50, 7)),
         [
-            state.connections.live_callers(alloc)?.len() as u64,
+            state.connections.live_connections(alloc)?.len() as u64,
             state.registrations.as_slice().len() as u64,
             state.challenges.as_slice().len() as u64,
             state.challenges.opened(),

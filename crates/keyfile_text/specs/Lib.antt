@@ -2,7 +2,9 @@ pub mod Bytes
 pub mod Escapes
 pub mod Lines
 pub mod Merging
+pub mod Keys
 pub mod KeyFiles
 pub mod Items
 pub mod Maps
 pub mod Runs
+pub mod Names

@@ -1,6 +1,7 @@
 -- The lines of a key file.
 use Rattle.std.specs.Prelude.{ℕ, ◌==◌, ◌-◌, Bool, not, nat_lt, List, [], ◌∷◌, length, take, drop, Option, Some, None, if◌then◌else◌, bytes_eq}
 use Rattle.byte_pieces.specs.Pieces.{onto_first}
+use Rattle.pk_types.specs.declared.text.TheConstants.{MAX_TEXT}
 use Rattle.keyfile_text.specs.Bytes.{is_empty, trim, cut_at}
 use Rattle.std.specs.List.{list_any}
 use Rattle.keyfile_text.specs.Escapes.{escapes_whole}
@@ -29,7 +30,7 @@ pub data Line : Type 0 where
 
 -- more bytes than a text has
 abbrev pub is_long : List ℕ → Bool
-is_long bytes = nat_lt 65535 (length bytes)
+is_long bytes = nat_lt MAX_TEXT (length bytes)
 
 -- whether a byte stands there
 abbrev pub has : ℕ → List ℕ → Bool

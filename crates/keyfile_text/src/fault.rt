@@ -1,4 +1,7 @@
 // Why bytes are no key file.
+ghost use Rattle.std.specs.Prelude.{◌≡◌};
+ghost use Rattle.keyfile_text.specs.Names.{fault_name};
+
 use pk_types::NoMemory;
 use std::fmt::{Display, Error as FmtError, Formatter, Write};
 use thiserror::Error;
@@ -29,6 +32,24 @@ pub enum KeyFaultKind {
 pub struct KeyFault {
     pub kind: KeyFaultKind,
     pub at: usize,
+}
+
+impl KeyFaultKind {
+    /// The name of the kind, as this type writes it: `NotUtf8`, `NoGroup`, `BadHeader`,
+    /// `NoEquals`, `BadEscape`, `TooLong` or `NoMemory`. Its `Display` says it in words.
+    pub fn name(self) -> &'static str
+        ensures text { result.now ≡ fault_name self }
+    {
+        match self {
+            KeyFaultKind::NotUtf8 => "NotUtf8",
+            KeyFaultKind::NoGroup => "NoGroup",
+            KeyFaultKind::BadHeader => "BadHeader",
+            KeyFaultKind::NoEquals => "NoEquals",
+            KeyFaultKind::BadEscape => "BadEscape",
+            KeyFaultKind::TooLong => "TooLong",
+            KeyFaultKind::NoMemory => "NoMemory",
+        }
+    }
 }
 
 impl Display for KeyFaultKind {

@@ -8,9 +8,7 @@ use crate::escape::are_escapes_whole;
 use crate::fault::KeyFaultKind;
 use crate::slices::trimmed;
 use byte_pieces::cut;
-
-/// The greatest number of bytes of a name, a key or a value.
-const MAX_TEXT: usize = 65535;
+use pk_types::MAX_TEXT;
 
 /// What a line says that has no fault.
 #[derive(Clone, Copy)]

@@ -137,6 +137,23 @@ fn lists_have_items(rt: HostRuntime) -> Result<(), Fail> {
 }
 
 #[test]
+fn kinds_have_names(rt: HostRuntime) -> Result<(), Fail> {
+    let rows: [(KeyFaultKind, &str); 7] = [
+        (KeyFaultKind::NotUtf8, "NotUtf8"),
+        (KeyFaultKind::NoGroup, "NoGroup"),
+        (KeyFaultKind::BadHeader, "BadHeader"),
+        (KeyFaultKind::NoEquals, "NoEquals"),
+        (KeyFaultKind::BadEscape, "BadEscape"),
+        (KeyFaultKind::TooLong, "TooLong"),
+        (KeyFaultKind::NoMemory, "NoMemory"),
+    ];
+    for (kind, name) in rows {
+        assert!(rt; kind.name() == name, "{kind}");
+    }
+    Ok(())
+}
+
+#[test]
 fn many_keys_are_read_soon(rt: HostRuntime) -> Result<(), Fail> {
     let mut bytes = b"[g]\n".to_vec(rt.alloc())?;
     for n in 0..100_000u32 {

@@ -1,8 +1,8 @@
 -- What a reader of lines gives.
 use Rattle.std.specs.Prelude.{◌≡◌, ◌≢◌, ℕ, ◌+◌, ◌≤◌, Bool, IsTrue, List, [], ◌∷◌, ◌++◌, length}
 use Rattle.byte_pieces.specs.Pieces.{Lacks}
-use Rattle.line_reader.specs.declared.reader.LineGot.{LineGot}
-use Rattle.line_reader.specs.declared.reader.LineGot.TheVariants as got
+use Rattle.line_reader.specs.declared.reader.LineRead.{LineRead}
+use Rattle.line_reader.specs.declared.reader.LineRead.TheVariants as got
 use Rattle.line_reader.specs.declared.reader.Piece.{Piece}
 use Rattle.line_reader.specs.declared.reader.Piece.TheVariants as of_piece
 
@@ -42,7 +42,7 @@ pub record TakesFront (max : ℕ) (bytes kept line : List ℕ) : Type 0 where
 
 -- From the bytes that were kept before and those that were read this line was taken, and these are
 -- kept now. Where the source failed nothing is kept: the line is all that stands before the fault.
-abbrev pub Takes : ℕ → Bool → List ℕ → List ℕ → List ℕ → LineGot → Type 0
+abbrev pub Takes : ℕ → Bool → List ℕ → List ℕ → List ℕ → LineRead → Type 0
 Takes max ended bytes kept line got.Line = TakesLine max bytes kept line
 Takes max ended bytes kept line got.Last = TakesLast max ended bytes kept line
 Takes max ended bytes kept line got.End = TakesNone ended bytes kept line

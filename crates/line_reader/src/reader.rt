@@ -1,7 +1,8 @@
 // Lines from a source that gives its bytes in any pieces.
-ghost use Rattle.std.specs.Prelude.{◌≡◌, ◌+◌, ◌<◌, ◌≤◌, ◌++◌, [], ℕ, List, IsTrue, length, vec_len, IfOk, OnErr};
+ghost use Rattle.std.specs.Prelude.{◌≡◌, ◌+◌, ◌<◌, ◌≤◌, ◌++◌, [], ℕ, List, IsTrue, length, vec_len, IfOk, OnOk, OnErr};
 ghost use Rattle.pk_outside.specs.Streams.{Gave};
-ghost use Rattle.pk_outside.specs.Causes.{Rose, HasCause};
+ghost use Rattle.pk_outside.specs.Causes.{HasCause};
+ghost use Rattle.line_reader.specs.Faults.{LineFaults};
 ghost use Rattle.line_reader.specs.Reading.{Takes, TakesPiece};
 
 use byte_pieces::cut;
@@ -33,7 +34,7 @@ impl Model for LineReader {
 
 /// What a call for the next line got.
 #[derive(Clone, Copy, Debug, PartialEq, Eq)]
-pub enum LineGot {
+pub enum LineRead {
     /// A line that LF ended.
     Line,
     /// A last line that has bytes and that the end of the source ended.
@@ -42,7 +43,7 @@ pub enum LineGot {
     End,
     /// The line is longer than the maximum.
     TooLong,
-    /// The source failed, and counted it.
+    /// The last read of the source failed, and counted one fault.
     ReadFault,
     /// Memory for the line was refused.
     NoMemory,
@@ -108,6 +109,7 @@ impl LineReader {
         ensures bytes { Gave (I.left input.old) (I.left input.new) self.new }
         ensures end { IfOk result (λ n. n ≡ 0 → IsTrue (I.ended input.new)) }
         ensures cause { HasCause (I.faults input.old) (I.faults input.new) result }
+        ensures quiet { OnOk result (I.faults input.new ≡ I.faults input.old) }
         ensures fewer { IfOk result (λ n. I.budget input.new + n ≤ I.budget input.old) }
     {
         self.start = 0;
@@ -120,31 +122,37 @@ impl LineReader {
     /// Takes the next line into `line`, without its LF and in place of what stood there.
     ///
     /// A line of more than `max` bytes is `TooLong` as soon as one byte above the maximum was seen,
-    /// whether it goes on or not.
-    pub fn next_line<I: Source>(&mut self, input: &mut I, line: &mut Vec<u8>, max: usize) -> LineGot
+    /// whether it goes on or not. Every answer but `ReadFault` leaves the source's count of faults;
+    /// behind a read that failed no other read is made.
+    pub fn next_line<I: Source>(
+        &mut self,
+        input: &mut I,
+        line: &mut Vec<u8>,
+        max: usize,
+    ) -> LineRead
         ensures takes { (read : List ℕ) × Gave (I.left input.old) (I.left input.new) read
             × Takes max (I.ended input.new) (self.old ++ read) self.new line.new.items result }
-        ensures fault { result ≡ LineGot.ReadFault → Rose (I.faults input.old) (I.faults input.new) }
+        ensures faults { LineFaults I.left I.faults input.old input.new result }
         ensures later { I.faults input.old ≤ I.faults input.new }
-        ensures fewer { result ≡ LineGot.Line →
+        ensures fewer { result ≡ LineRead.Line →
             I.budget input.new + length self.new < I.budget input.old + length self.old }
     {
         line.clear();
         'pieces: loop {
             match self.take_piece(line, max) {
-                Err(NoMemory) => return LineGot::NoMemory,
-                Ok(Piece::Ended) => return LineGot::Line,
-                Ok(Piece::TooLong) => return LineGot::TooLong,
+                Err(NoMemory) => return LineRead::NoMemory,
+                Ok(Piece::Ended) => return LineRead::Line,
+                Ok(Piece::TooLong) => return LineRead::TooLong,
                 Ok(Piece::Open) => {}
             }
             match self.refill(input) {
-                Err(Failed) => return LineGot::ReadFault,
+                Err(Failed) => return LineRead::ReadFault,
                 Ok(0) => {
                     let taken = line.as_slice();
                     return if taken.is_empty() {
-                        LineGot::End
+                        LineRead::End
                     } else {
-                        LineGot::Last
+                        LineRead::Last
                     };
                 }
                 Ok(_) => {}

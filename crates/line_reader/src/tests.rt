@@ -1,7 +1,7 @@
 // Lines over sources that give one byte at a time, many at once, and fail in mid-stream.
 ghost use Rattle.std.specs.Prelude.{◌<◌, ◌≤◌, ◌^◌, length};
 
-use crate::{LineGot, LineReader};
+use crate::{LineRead, LineReader};
 use pk_outside::{ByteSource, Source};
 use std::alloc::{AllocError, Global};
 use std::test::Fail;
@@ -24,7 +24,7 @@ fn gives<I: Source>(
     reader: &mut LineReader,
     input: &mut I,
     line: &mut Vec<u8>,
-    want: LineGot,
+    want: LineRead,
     bytes: &[u8],
 ) -> bool {
     reader.next_line(input, line, 4) == want && line.as_slice() == bytes
@@ -37,11 +37,11 @@ fn lines_come_whole_from_any_pieces(rt: HostRuntime) -> Result<(), Fail> {
         let mut input = source(alloc, b"ab\n\n1234\nlast", piece, &[])?;
         let mut reader = LineReader::new(alloc).map_err(|_| "out of memory")?;
         let mut line = Vec::new(alloc);
-        assert!(rt; gives(&mut reader, &mut input, &mut line, LineGot::Line, b"ab"));
-        assert!(rt; gives(&mut reader, &mut input, &mut line, LineGot::Line, b""));
-        assert!(rt; gives(&mut reader, &mut input, &mut line, LineGot::Line, b"1234"));
-        assert!(rt; gives(&mut reader, &mut input, &mut line, LineGot::Last, b"last"));
-        assert!(rt; gives(&mut reader, &mut input, &mut line, LineGot::End, b""));
+        assert!(rt; gives(&mut reader, &mut input, &mut line, LineRead::Line, b"ab"));
+        assert!(rt; gives(&mut reader, &mut input, &mut line, LineRead::Line, b""));
+        assert!(rt; gives(&mut reader, &mut input, &mut line, LineRead::Line, b"1234"));
+        assert!(rt; gives(&mut reader, &mut input, &mut line, LineRead::Last, b"last"));
+        assert!(rt; gives(&mut reader, &mut input, &mut line, LineRead::End, b""));
     }
     Ok(())
 }
@@ -57,15 +57,23 @@ fn long_lines_and_faults_stop_at_once(rt: HostRuntime) -> Result<(), Fail> {
             &mut reader,
             &mut long,
             &mut line,
-            LineGot::TooLong,
+            LineRead::TooLong,
             b"12345"
         )
     );
     let mut broken = source(alloc, b"a\nb", 2, &[2])?;
     let mut reader = LineReader::new(alloc).map_err(|_| "out of memory")?;
-    assert!(rt; gives(&mut reader, &mut broken, &mut line, LineGot::Line, b"a"));
-    assert!(rt; gives(&mut reader, &mut broken, &mut line, LineGot::ReadFault, b""));
+    assert!(rt; gives(&mut reader, &mut broken, &mut line, LineRead::Line, b"a"));
+    assert!(rt;
+        gives(
+            &mut reader,
+            &mut broken,
+            &mut line,
+            LineRead::ReadFault,
+            b""
+        )
+    );
     assert_eq!(rt; broken.faults(), 1);
-    assert!(rt; gives(&mut reader, &mut broken, &mut line, LineGot::Last, b"b"));
+    assert!(rt; gives(&mut reader, &mut broken, &mut line, LineRead::Last, b"b"));
     Ok(())
 }

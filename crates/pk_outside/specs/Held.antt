@@ -21,6 +21,10 @@ source_budget source = length source.bytes.items - source.at
 abbrev pub source_ended : ByteSource → Bool
 source_ended source = nat_eq source.at (length source.bytes.items)
 
+-- The most bytes that a source gives in a call.
+abbrev pub source_piece : ByteSource → ℕ
+source_piece source = source.piece
+
 -- The calls of a source.
 abbrev pub source_calls : ByteSource → Counted
 source_calls source = source.calls
@@ -33,6 +37,10 @@ sink_held sink = sink.bytes.items
 abbrev pub sink_room : ByteSink → ℕ
 sink_room sink = sink.room
 
+-- The most bytes that a sink takes in a call.
+abbrev pub sink_piece : ByteSink → ℕ
+sink_piece sink = sink.piece
+
 -- The calls of a sink.
 abbrev pub sink_calls : ByteSink → Counted
 sink_calls sink = sink.calls
@@ -40,6 +48,22 @@ sink_calls sink = sink.calls
 -- The bytes that a source which never fails has left.
 abbrev pub sure_left : SureSource → List ℕ
 sure_left source = drop source.at source.bytes.items
+
+-- All of its bytes.
+abbrev pub sure_bytes : SureSource → List ℕ
+sure_bytes source = source.bytes.items
+
+-- The most bytes that it gives in a call.
+abbrev pub sure_piece : SureSource → ℕ
+sure_piece source = source.piece
+
+-- How many bytes it can still give.
+abbrev pub sure_budget : SureSource → ℕ
+sure_budget source = length source.bytes.items - source.at
+
+-- It has given all of its bytes.
+abbrev pub sure_ended : SureSource → Bool
+sure_ended source = nat_eq source.at (length source.bytes.items)
 
 -- The two ends of a link of which nothing was read or written.
 pub record IsUnused (input : ByteSource) (output : ByteSink) : Type 0 where

@@ -1,9 +1,10 @@
 -- The counted calls of the objects in memory.
-use Rattle.std.specs.Prelude.{◌≡◌, ◌+◌, ◌-◌, ◌^◌, ℕ, List, Bool, cond, nat_eq, min}
+use Rattle.std.specs.Prelude.{◌≡◌, ℕ, List, Bool, cond, nat_eq}
 use Rattle.std.specs.List.{list_any}
 use Rattle.std.proofs.Common.{arith, drop, length, [], IsTrue}
 use Rattle.std.proofs.lemmas.List.{drop_all}
 use Rattle.std.proofs.lemmas.Bool.{eqb-true}
+use Rattle.pk_outside.specs.Causes.{one_more}
 
 -- What an object in memory counts: the calls made, the faults among them, and the numbers of the
 -- calls that are to fail, from 1. Both counts stand still at their greatest value.
@@ -11,10 +12,6 @@ pub record Counted : Type 0 where
   pub made : ℕ
   pub faults : ℕ
   pub failing : List ℕ
-
--- One more, up to the greatest value of a count.
-abbrev pub one_more : ℕ → ℕ
-one_more count = min (count + 1) (2 ^ 64 - 1)
 
 -- The next call is one of those that are to fail.
 abbrev pub fails_next : Counted → Bool

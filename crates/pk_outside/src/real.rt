@@ -1,6 +1,6 @@
 // Any reader and any writer of std, as standard input and standard output, with a count of the
 // faults. They are the trusted edge: nothing is told of their content.
-ghost use Rattle.std.specs.Prelude.{◌≡◌, ◌+◌, ◌≤◌, ◌<◌, ◌^◌, IsTrue, IfOk, MatchResult, length, take};
+ghost use Rattle.std.specs.Prelude.{◌≡◌, ◌+◌, ◌≤◌, ◌<◌, ◌^◌, IsTrue, IfOk, MatchResult, length, take, OnOk};
 ghost use Rattle.std.specs.Io.{ReadsAtMost};
 ghost use Rattle.std.specs.Io.KnownBytes.{Appends, Consumes};
 ghost use Rattle.pk_outside.specs.Causes.{HasCause};
@@ -66,6 +66,7 @@ impl<R: Read + Drop + Send> Source for ReadSource<R> {
         ensures bound { ReadsAtMost result buffer.new }
         ensures end { IfOk result (λ n. n ≡ 0 → IsTrue (source_ended self.new)) }
         ensures cause { HasCause (source_faults self.old) (source_faults self.new) result }
+        ensures quiet { OnOk result (source_faults self.new ≡ source_faults self.old) }
         ensures fewer { MatchResult result (λ n. source_budget self.new + n ≤ source_budget self.old)
             (λ _. source_budget self.new ≤ source_budget self.old) }
         ensures through { IfOk result (λ n. Consumes (R.remaining (reader_of self.old)) (R.remaining (reader_of self.new)) (take n buffer.new)) }
@@ -121,6 +122,7 @@ impl<W: Write + Drop + Send> Sink for WriteSink<W> {
         requires { 0 < length bytes.now }
         ensures bound { IfOk result (λ n. (0 < n) × (n ≤ length bytes.now)) }
         ensures cause { HasCause (sink_faults self.old) (sink_faults self.new) result }
+        ensures quiet { OnOk result (sink_faults self.new ≡ sink_faults self.old) }
         ensures through { IfOk result (λ n. Appends (W.contents (writer_of self.old)) (W.contents (writer_of self.new)) (take n bytes.now)) }
     {
         match self.inner.write(bytes) {

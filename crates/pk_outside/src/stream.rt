@@ -1,7 +1,7 @@
 // Bytes that come and bytes that go.
 ghost use Rattle.std.specs.Prelude.{◌≡◌, ◌+◌, ◌^◌, ◌<◌, ◌≤◌, List, ℕ, Option, None, Bool, IsTrue, length, IfOk, MatchResult, OnOk, OnErr};
 ghost use Rattle.std.specs.Io.{ReadsAtMost};
-ghost use Rattle.pk_outside.specs.Causes.{HasCause};
+ghost use Rattle.pk_outside.specs.Causes.{HasCause, FailsLast};
 ghost use Rattle.pk_outside.specs.Links.{Origin};
 ghost use Rattle.pk_outside.specs.Streams.{ReadGave, WriteGot, Got, GotFront, IsUsedUp};
 
@@ -31,7 +31,8 @@ pub trait Source: Drop + Send {
     /// at its end. The answer is their number.
     ///
     /// # Errors
-    /// `Failed` where the source failed and counted a fault; nothing was read.
+    /// `Failed` where the source failed and counted one fault; nothing was read. A call that succeeds
+    /// leaves the count.
     fn read(&mut self, buffer: &mut [u8]) -> Result<usize, Failed>
         requires { 0 < length buffer.old }
         ensures bound { ReadsAtMost result buffer.new }
@@ -39,6 +40,7 @@ pub trait Source: Drop + Send {
         ensures end { IfOk result (λ n. n ≡ 0 → IsTrue (ended self.new)) }
         ensures same { origin self.new ≡ origin self.old }
         ensures cause { HasCause (faults self.old) (faults self.new) result }
+        ensures quiet { OnOk result (faults self.new ≡ faults self.old) }
         ensures fewer { MatchResult result (λ n. budget self.new + n ≤ budget self.old) (λ _. budget self.new ≤ budget self.old) };
 
     /// No source can give more than this.
@@ -59,22 +61,27 @@ pub trait Sink: Drop + Send {
     /// Writes the first of the bytes, at least one of them. The answer is their number.
     ///
     /// # Errors
-    /// `Failed` where the sink failed or takes nothing, and counted a fault; nothing was written.
+    /// `Failed` where the sink failed or takes nothing, and counted one fault; nothing was written. A
+    /// call that succeeds leaves the count.
     fn write(&mut self, bytes: &[u8]) -> Result<usize, Failed>
         requires { 0 < length bytes.now }
         ensures bound { IfOk result (λ n. (0 < n) × (n ≤ length bytes.now)) }
         ensures bytes { WriteGot (held self.old) (held self.new) result bytes.now }
-        ensures cause { HasCause (faults self.old) (faults self.new) result };
+        ensures cause { HasCause (faults self.old) (faults self.new) result }
+        ensures quiet { OnOk result (faults self.new ≡ faults self.old) };
 }
 
 /// Writes all of the bytes.
 ///
 /// # Errors
-/// `Failed` where the sink failed and counted a fault; a front of the bytes was written.
+/// `Failed` where the last write failed and counted one fault; a prefix of the bytes was written,
+/// and no write was made behind it.
 pub fn write_all<O: Sink>(output: &mut O, bytes: &[u8]) -> Result<(), Failed>
     ensures ok { OnOk result (Got (O.held output.old) (O.held output.new) bytes.now) }
     ensures err { OnErr result (GotFront (O.held output.old) (O.held output.new) bytes.now) }
     ensures cause { HasCause (O.faults output.old) (O.faults output.new) result }
+    ensures quiet { OnOk result (O.faults output.new ≡ O.faults output.old) }
+    ensures last { OnErr result (FailsLast O.held O.faults output.old output.new) }
 {
     let mut rest = bytes;
     while !rest.is_empty() {

@@ -56,6 +56,7 @@ fn trees_in_memory_hold_nothing(rt: HostRuntime) -> Result<(), Fail> {
     let mut tree = ListTree::new();
     assert!(rt; matches!(tree.names(&path), Ok(Names::Absent)));
     assert!(rt; matches!(tree.read(&path, 9), Ok(FileBytes::Absent)));
+    assert_eq!(rt; tree.faults(), 0);
     Ok(())
 }
 

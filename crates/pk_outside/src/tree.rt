@@ -42,6 +42,10 @@ pub trait Tree: Drop + Send {
     /// How often the tree has failed.
     ghost faults: { Self → ℕ };
 
+    /// How often the tree has failed.
+    fn faults(&self) -> u64
+        ensures count { result ≡ faults self.now };
+
     /// The names in a directory.
     ///
     /// # Errors

@@ -1,6 +1,5 @@
 pub mod ActionId
 pub mod Decimals
-pub mod Glob
 pub mod Roomy
 pub mod Text
 pub mod Values

@@ -1,6 +1,7 @@
 -- Which bytes are a text.
 use Rattle.std.specs.Prelude.{◌≡◌, ℕ, ◌==◌, nat_lt, List, length, take, Option, None, Some, Result, Ok, Err, position, if◌then◌else◌}
 use Rattle.std.specs.Str.Lossy.{utf8_valid_len}
+use Rattle.pk_types.specs.declared.text.TheConstants.{MAX_TEXT}
 use Rattle.pk_types.specs.declared.text.TextFault.{TextFault}
 use Rattle.pk_types.specs.declared.text.TextFault.TheVariants as text_fault
 
@@ -20,7 +21,7 @@ bad_byte_fault None = None
 
 -- why the bytes are no text: too many, or a bad byte
 abbrev pub text_fault_of : List ℕ → Option TextFault
-text_fault_of bytes = if nat_lt 65535 (length bytes) then Some (text_fault.TooLong (length bytes)) else bad_byte_fault (text_bad bytes)
+text_fault_of bytes = if nat_lt MAX_TEXT (length bytes) then Some (text_fault.TooLong (length bytes)) else bad_byte_fault (text_bad bytes)
 
 -- the bytes are a text
 abbrev pub IsText : List ℕ → Type 0

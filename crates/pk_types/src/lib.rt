@@ -19,7 +19,7 @@ pub use copies::TryCopy;
 pub use list::{List, NoMemory};
 pub use number::number_up_to;
 pub use reserved::Reserved;
-pub use text::{Text, TextFault, bad_byte};
+pub use text::{MAX_TEXT, Text, TextFault, bad_byte};
 pub use values::{Category, Identity, Implicit, Pair, Subject};
 
 /// A list of texts.

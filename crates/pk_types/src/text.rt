@@ -10,7 +10,7 @@ use std::str;
 use thiserror::Error;
 
 /// The greatest number of bytes of a text.
-const MAX_TEXT: usize = 65535;
+pub const MAX_TEXT: usize = 65535;
 
 /// A text: UTF-8 without byte 0, at most 65,535 bytes, as a string of the D-Bus Specification
 /// without its length and its last byte 0.

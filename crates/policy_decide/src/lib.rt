@@ -6,12 +6,10 @@
 //! to the first. Nothing here takes memory.
 #![tactic(auto)]
 
-mod actions;
 mod places;
 mod rules;
 #[cfg(test)]
 mod tests;
 mod values;
 
-pub use actions::action;
 pub use values::implicit;

@@ -1,28 +1,13 @@
 // The identity places of a user, and the rule that decides there.
 ghost use Rattle.std.specs.Prelude.{◌≡◌, flat_map};
-ghost use Rattle.std.specs.Option.{option_copied, option_map};
-ghost use Rattle.authority_model.specs.Worlds.{user_row, group_row};
+ghost use Rattle.std.specs.Option.{option_map};
 ghost use Rattle.authority_model.specs.Rules.{deciding, greatest, places_of_row};
 ghost use Rattle.authority_model.specs.Small.{IsShort};
 ghost use Rattle.policy_decide.specs.Walks.{rule_seen, group_places};
 
 use crate::rules::{Rule, last_of};
-use authority_model::{Group, Policy, User, World};
+use authority_model::{Policy, User, World};
 use pk_types::{Category, Text};
-
-/// The first row of a user with this uid.
-fn user(world: &World, uid: u32) -> Option<&User>
-    ensures first { option_copied result ≡ user_row world.now uid }
-{
-    world.users.as_slice().iter().find(|row| row.uid == uid)
-}
-
-/// The first row of a group with this gid.
-fn group(world: &World, gid: u32) -> Option<&Group>
-    ensures first { option_copied result ≡ group_row world.now gid }
-{
-    world.groups.as_slice().iter().find(|row| row.gid == gid)
-}
 
 /// The last rule that matches at the place of a group.
 fn last_of_group<'a>(
@@ -35,7 +20,7 @@ fn last_of_group<'a>(
     requires entries { IsShort policy.now.entries }
     ensures last { option_map rule_seen result ≡ greatest policy.now action.now category (group_places world.now gid) }
 {
-    match group(world, gid) {
+    match world.group(gid) {
         Some(row) => last_of(policy.entries.as_slice(), action, category, &row.label),
         None => None,
     }
@@ -91,7 +76,7 @@ pub fn deciding<'a>(
     requires entries { IsShort policy.now.entries }
     ensures deciding { option_map rule_seen result ≡ deciding policy.now world.now uid category action.now }
 {
-    match user(world, uid) {
+    match world.user(uid) {
         Some(row) => greatest_of_user(policy, world, row, category, action),
         None => None,
     }

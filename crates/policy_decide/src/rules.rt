@@ -1,32 +1,21 @@
 // The rules that match at an identity place.
 ghost use Rattle.std.specs.Prelude.{◌≡◌};
 ghost use Rattle.std.specs.Option.{option_map};
-ghost use Rattle.pk_types.specs.Glob.{matches as matches_glob};
+ghost use Rattle.glob_match.specs.Glob.{matches as matches_glob};
 ghost use Rattle.authority_model.specs.Lists.{any_of};
-ghost use Rattle.authority_model.specs.Rules.{value_of, matches_at};
+ghost use Rattle.authority_model.specs.Rules.{matches_at};
 ghost use Rattle.authority_model.specs.Small.{IsShort};
 ghost use Rattle.policy_decide.specs.Walks.{rule_seen, last_of};
 
 use authority_model::RuleEntry;
 use glob_match::matches;
-use pk_types::{Category, Implicit, Text};
+use pk_types::{Category, Text};
 
 /// A rule with its place among the rules, counted from 0.
 #[derive(Clone, Copy)]
 pub struct Rule<'a> {
     pub place: u32,
     pub entry: &'a RuleEntry,
-}
-
-/// The value of a rule in a category, where it has one.
-pub fn value_of(entry: &RuleEntry, category: Category) -> Option<Implicit>
-    ensures value { result ≡ value_of entry.now category }
-{
-    match category {
-        Category::Any => entry.any,
-        Category::Inactive => entry.inactive,
-        Category::Active => entry.active,
-    }
 }
 
 /// Whether a text is in one of these globs.
@@ -43,7 +32,7 @@ fn matches_at(label: &Text, action: &Text, category: Category, entry: &RuleEntry
 {
     is_in_any(entry.identities.as_slice(), label)
         && is_in_any(entry.actions.as_slice(), action)
-        && value_of(entry, category).is_some()
+        && entry.value_for(category).is_some()
 }
 
 /// The last of these rules that matches at the place with this label.

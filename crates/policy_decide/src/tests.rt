@@ -2,7 +2,7 @@
 ghost use Rattle.std.specs.Prelude.{IfOk};
 ghost use Rattle.authority_model.specs.Small.{IsShort};
 
-use crate::{action, implicit};
+use crate::implicit;
 use authority_model::{
     Action, Group, Loaded, Policy, RuleEntry, RuleList, RuleSource, User, World,
 };
@@ -22,18 +22,8 @@ fn texts(alloc: Global, bytes: &str) -> Result<TextList, Fail> {
 
 /// An action of an active session's administrators.
 fn set_clock(alloc: Global) -> Result<Action, Fail> {
-    Ok(Action {
-        id: ActionId::read(&text(alloc, "clock.set")?)?,
-        descriptions: List::new(alloc),
-        messages: List::new(alloc),
-        vendor: Text::new(alloc),
-        vendor_url: Text::new(alloc),
-        icon: Text::new(alloc),
-        any: Implicit::No,
-        inactive: Implicit::No,
-        active: Implicit::AuthAdmin,
-        annotations: List::new(alloc),
-    })
+    let id = ActionId::read(&text(alloc, "clock.set")?)?;
+    Ok(Action::plain(alloc, id, Implicit::No, Implicit::No, Implicit::AuthAdmin))
 }
 
 /// A rule for active sessions alone.
@@ -108,15 +98,6 @@ fn world(alloc: Global) -> Result<World, Fail> {
         .users
         .try_push(user(alloc, 1002, "unix-user:eve", &[10, 50, 99])?)?;
     Ok(world)
-}
-
-#[test]
-fn actions_are_found(rt: HostRuntime) -> Result<(), Fail> {
-    let alloc = rt.alloc();
-    let policy = policy(alloc)?;
-    assert!(rt; action(&policy, &text(alloc, "clock.set")?).is_some());
-    assert!(rt; action(&policy, &text(alloc, "clock")?).is_none());
-    Ok(())
 }
 
 #[test]

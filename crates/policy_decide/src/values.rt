@@ -5,9 +5,8 @@ ghost use Rattle.authority_model.specs.Rules.{value_by, implicit};
 ghost use Rattle.authority_model.specs.Small.{IsShort};
 ghost use Rattle.policy_decide.specs.Walks.{rule_seen};
 
-use crate::actions::{action, default_of};
 use crate::places::deciding;
-use crate::rules::{Rule, value_of};
+use crate::rules::Rule;
 use authority_model::{Action, Policy, RuleSource, World};
 use pk_types::{Category, Implicit, Text};
 
@@ -16,9 +15,11 @@ fn value_by(category: Category, action: &Action, rule: Option<Rule>) -> (Implici
     ensures value { result ≡ value_by category action.now (option_map rule_seen rule.entry) }
 {
     match rule {
-        None => (default_of(action, category), RuleSource::Default(category)),
+        None => (action.default_for(category), RuleSource::Default(category)),
         Some(rule) => (
-            value_of(rule.entry, category).unwrap_or(default_of(action, category)),
+            rule.entry
+                .value_for(category)
+                .unwrap_or(action.default_for(category)),
             RuleSource::Entry(rule.place),
         ),
     }
@@ -36,7 +37,7 @@ pub fn implicit(
     requires entries { IsShort policy.now.entries }
     ensures implicit { result ≡ implicit policy.now world.now uid category id.now }
 {
-    match action(policy, id) {
+    match policy.action(id) {
         Some(found) => {
             let rule = deciding(policy, world, uid, category, id);
             Some(value_by(category, found, rule))

@@ -9,13 +9,13 @@ use Rattle.scenario_text.specs.declared.fault.LineKind.{LineKind}
 use Rattle.scenario_text.specs.declared.fault.LineKind.TheVariants as kind
 use Rattle.scenario_text.specs.Faults.{IsFaultOf}
 use Rattle.scenario_run.specs.Scene.{Scene, run_line}
-use Rattle.scenario_run.specs.declared.stage.Taken.{Taken}
-use Rattle.scenario_run.specs.declared.stage.Taken.TheVariants as taken
-use Rattle.scenario_run.specs.Stages.{TakenIs, last_outputs}
+use Rattle.scenario_run.specs.declared.scenario.LineEffect.{LineEffect}
+use Rattle.scenario_run.specs.declared.scenario.LineEffect.TheVariants as taken
+use Rattle.scenario_run.specs.ScenarioRuns.{EffectIs, last_outputs}
 use Rattle.scenario_run.specs.Text.{IsEntered, loads_of, one_more, outputs_text, counts_after, text_of}
 use Rattle.polkit_daemon.specs.declared.replaying.Stopped.{Stopped}
 use Rattle.polkit_daemon.specs.declared.replaying.Stopped.TheVariants as stopped
-use Rattle.polkit_daemon.specs.Lines.{IsCut, IsAnswered, LineDone, LastWritten, stop_of}
+use Rattle.polkit_daemon.specs.Lines.{IsLineCutOff, IsLineAnswered, LineDone, LastWritten, stop_of}
 use Rattle.pk_outside.proofs.Written.{Got-none}
 
 count_one : (b : Bool) (n m : ℕ) → (if b then n + 1 else n) + m ≡ n + ((if b then 1 else 0) + m)
@@ -45,7 +45,7 @@ sent_entered old new counts counts' e is after =
 
 -- a front of the answers of an entry was written
 pub cut_of : (old new : Scene) (line : List ℕ) (counts : ℕ → ℕ) (before held : Option (List ℕ)) → run_line old line ≡ Ok new → IsEntered old.past new.past
-    → Legal new.past → counts ≡ sent old.past → GotFront before held (outputs_text (loads_of new.past) counts (last_outputs new.past)) → IsCut old line before held
+    → Legal new.past → counts ≡ sent old.past → GotFront before held (outputs_text (loads_of new.past) counts (last_outputs new.past)) → IsLineCutOff old line before held
 cut_of old new line counts before held ran e legal is front = record {
   next = new;
   added = outputs_text (loads_of new.past) counts (last_outputs new.past);
@@ -70,8 +70,8 @@ entry_done old new line counts counts' before held (Err stopped.WriteFault) ran 
 entry_done old new line counts counts' before held (Err stopped.NoMemory) ran e legal is written = inr (cut_of old new line counts before held ran e legal is written)
 
 -- the line made an entry
-pub made_entry : (t : Taken) (old new : List Item) → t ≡ taken.Entry → TakenIs t old new → IsEntered old new
-made_entry t old new e is = let P : Taken → Type 0 = λ x. TakenIs x old new in subst P e is
+pub made_entry : (t : LineEffect) (old new : List Item) → t ≡ taken.Entry → EffectIs t old new → IsEntered old new
+made_entry t old new e is = let P : LineEffect → Type 0 = λ x. EffectIs x old new in subst P e is
 
 -- the counts behind the answers of an entry
 pub last_counted : (old new : Scene) (counts counts' : ℕ → ℕ) (before held : Option (List ℕ)) (result : Result (Unit {0}) Stopped) → IsEntered old.past new.past
@@ -80,7 +80,7 @@ last_counted old new counts counts' before held (Ok done) e is written = sent_en
 last_counted old new counts counts' before held (Err e') e is written = tt
 
 -- a line that made no entry adds no text
-pub draft_done : (old new : Scene) (line : List ℕ) (held : Option (List ℕ)) → run_line old line ≡ Ok new → new.past ≡ old.past → Legal old.past → IsAnswered old line new held held
+pub draft_done : (old new : Scene) (line : List ℕ) (held : Option (List ℕ)) → run_line old line ≡ Ok new → new.past ≡ old.past → Legal old.past → IsLineAnswered old line new held held
 draft_done old new line held ran same legal = record {
   added = [];
   ran = ran;

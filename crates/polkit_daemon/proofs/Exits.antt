@@ -5,7 +5,7 @@ use Rattle.pk_outside.proofs.Written.{Gave-none, Gave-more, Got-none, Got-more}
 use Rattle.byte_pieces.specs.Pieces.{lines_of}
 use Rattle.byte_pieces.proofs.Cuts.{lines_of-cut, lines_of-last}
 use Rattle.line_reader.specs.Reading.{Takes}
-use Rattle.line_reader.specs.declared.reader.LineGot.TheVariants as line_got
+use Rattle.line_reader.specs.declared.reader.LineRead.TheVariants as line_read
 use Rattle.authority_model.specs.declared.journal.Item.{Item}
 use Rattle.authority_model.specs.Legal.{Legal}
 use Rattle.authority_laws.proofs.Tracing.{access}
@@ -16,8 +16,8 @@ use Rattle.polkit_daemon.specs.declared.replaying.Stopped.{Stopped}
 use Rattle.polkit_daemon.specs.declared.replaying.Stopped.TheVariants as stopped
 use Rattle.polkit_daemon.specs.declared.status.Status.{Status}
 use Rattle.polkit_daemon.specs.declared.status.Status.TheVariants as status
-use Rattle.polkit_daemon.specs.Lines.{IsCut, IsAnswered, LineDone, status_of}
-use Rattle.polkit_daemon.specs.Replay.{run, replayed, history_of, Whatever, IsBegun, IsFront, HasFault, Replayed, Replays}
+use Rattle.polkit_daemon.specs.Lines.{IsLineCutOff, IsLineAnswered, LineDone, status_of}
+use Rattle.polkit_daemon.specs.Replay.{run, replayed, replay_history, Whatever, IsBegun, IsFront, HasFault, Replayed, Replays}
 use Rattle.polkit_daemon.proofs.Runs.{Clean, joined, ran_to, run-append, run-one, lines_of-joined, joined-one, clean_one, history_at, fault_at, extends_at, next_extends, has_fault, Begins, whatever_map, too_long_at}
 
 -- At each turn these bytes were read, and of them the lines so far ran without a fault and were answered.
@@ -47,7 +47,7 @@ replayed_on {pending = pending} {s = s} {n = n} so got more =
     ap replayed (append_assoc so.read got more) ∙ replayed_is so (got ++ more) ∙ ap (λ b. run (lines_of b) n s) (sym (append_assoc pending got more))
 
 pub begins_line : {l0 l before held : Option (List ℕ)} {pending : List ℕ} {s : Scene} {n : ℕ} (so : SoFar l0 l pending s n before held) (ended : Bool) (got new line : List ℕ)
-    → Takes 4096 ended (pending ++ got) new line line_got.Line → Whatever ended (Begins line n s) (so.read ++ got)
+    → Takes 4096 ended (pending ++ got) new line line_read.Line → Whatever ended (Begins line n s) (so.read ++ got)
 begins_line {s = s} {n = n} so ended got new line t = inr (λ more. (
   lines_of (new ++ more),
   replayed_on so got more
@@ -55,7 +55,7 @@ begins_line {s = s} {n = n} so ended got new line t = inr (λ more. (
 ))
 
 pub begins_last : {l0 l before held : Option (List ℕ)} {pending : List ℕ} {s : Scene} {n : ℕ} (so : SoFar l0 l pending s n before held) (ended : Bool) (got new line : List ℕ)
-    → Takes 4096 ended (pending ++ got) new line line_got.Last → Whatever ended (Begins line n s) (so.read ++ got)
+    → Takes 4096 ended (pending ++ got) new line line_read.Last → Whatever ended (Begins line n s) (so.read ++ got)
 begins_last {s = s} {n = n} so ended got new line t =
     inl (t.at_end, ([], replayed_is so got ∙ ap (λ ls. run ls n s) (ap lines_of t.whole ∙ lines_of-last line t.lacks t.some)))
 
@@ -75,7 +75,7 @@ at_first left held pending s none begin = record {
 
 -- one more line
 pub go_on : {l0 l before held : Option (List ℕ)} {pending : List ℕ} {s : Scene} {n : ℕ} (so : SoFar l0 l pending s n before held) (ended : Bool) (l' held' : Option (List ℕ))
-    (got pending' line : List ℕ) (s' : Scene) → Gave l l' got → Takes 4096 ended (pending ++ got) pending' line line_got.Line → IsAnswered s line s' held held'
+    (got pending' line : List ℕ) (s' : Scene) → Gave l l' got → Takes 4096 ended (pending ++ got) pending' line line_read.Line → IsLineAnswered s line s' held held'
     → SoFar l0 l' pending' s' (n + 1) before held'
 go_on {l0 = l0} {l = l} {before = before} {held = held} {pending = pending} {s = s} {n = n} so ended l' held' got pending' line s' g t a = record {
   read = so.read ++ got;
@@ -101,7 +101,7 @@ at_none left held ended = record {
   got = Got-none held;
   legal = tt;
   licensed = tt;
-  run = (inr (λ more. (history_of more, sym (append-nil (history_of more)))), ([], refl));
+  run = (inr (λ more. (replay_history more, sym (append-nil (replay_history more)))), ([], refl));
 }
 
 -- memory was refused between two lines, or in a line before it was answered
@@ -124,7 +124,7 @@ Partly ended read past written = Whatever ended (IsBegun past) read × IsFront w
 
 cut_gives : (st : Status) {l0 l before held : Option (List ℕ)} {pending : List ℕ} {s : Scene} {n : ℕ} (so : SoFar l0 l pending s n before held) (ended : Bool) (l' held' : Option (List ℕ))
     (got line : List ℕ) → ((read : List ℕ) (past : List Item) (written : List ℕ) → Partly ended read past written → Replayed ended read past written st)
-    → Gave l l' got → Whatever ended (Begins line n s) (so.read ++ got) → IsCut s line held held' → Replays l0 l' ended before held' st
+    → Gave l l' got → Whatever ended (Begins line n s) (so.read ++ got) → IsLineCutOff s line held held' → Replays l0 l' ended before held' st
 cut_gives st {l0 = l0} {l = l} {before = before} {held = held} {s = s} {n = n} so ended l' held' got line is g a cut = record {
   read = so.read ++ got;
   written = text_of s.past ++ cut.front.1.0;
@@ -163,7 +163,7 @@ stopped_gives stopped.NoMemory so ended l' held' got line s' g a (inr cut) = cut
 
 -- the run ended where the bytes ended
 pub done_end : {l0 l before held : Option (List ℕ)} {pending : List ℕ} {s : Scene} {n : ℕ} (so : SoFar l0 l pending s n before held) (ended : Bool) (l' : Option (List ℕ))
-    (got pending' line : List ℕ) → Gave l l' got → Takes 4096 ended (pending ++ got) pending' line line_got.End → Replays l0 l' ended before held status.Done
+    (got pending' line : List ℕ) → Gave l l' got → Takes 4096 ended (pending ++ got) pending' line line_read.End → Replays l0 l' ended before held status.Done
 done_end {l0 = l0} {l = l} {s = s} {n = n} so ended l' got pending' line g t =
     let ran : replayed (so.read ++ got) ≡ ran_to s None = replayed_is so got ∙ ap (λ b. run (lines_of b) n s) t.whole in
     record {
@@ -179,7 +179,7 @@ done_end {l0 = l0} {l = l} {s = s} {n = n} so ended l' got pending' line g t =
 
 -- the run ended behind a last line
 pub done_last : {l0 l before held : Option (List ℕ)} {pending : List ℕ} {s : Scene} {n : ℕ} (so : SoFar l0 l pending s n before held) (ended : Bool) (l' held' : Option (List ℕ))
-    (got pending' line : List ℕ) (s' : Scene) → Gave l l' got → Takes 4096 ended (pending ++ got) pending' line line_got.Last → IsAnswered s line s' held held'
+    (got pending' line : List ℕ) (s' : Scene) → Gave l l' got → Takes 4096 ended (pending ++ got) pending' line line_read.Last → IsLineAnswered s line s' held held'
     → Replays l0 l' ended before held' status.Done
 done_last {l0 = l0} {l = l} {before = before} {held = held} {s = s} {n = n} so ended l' held' got pending' line s' g t a =
     let one : lines_of line ≡ line ∷ [] = lines_of-last line t.lacks t.some in
@@ -198,7 +198,7 @@ done_last {l0 = l0} {l = l} {before = before} {held = held} {s = s} {n = n} so e
 
 -- the source failed behind whole lines
 pub cut_off : {l0 l before held : Option (List ℕ)} {pending : List ℕ} {s : Scene} {n : ℕ} (so : SoFar l0 l pending s n before held) (ended : Bool) (l' : Option (List ℕ))
-    (got pending' line : List ℕ) → Gave l l' got → Takes 4096 ended (pending ++ got) pending' line line_got.ReadFault → Replays l0 l' ended before held status.ReadFault
+    (got pending' line : List ℕ) → Gave l l' got → Takes 4096 ended (pending ++ got) pending' line line_read.ReadFault → Replays l0 l' ended before held status.ReadFault
 cut_off {l0 = l0} {l = l} {pending = pending} {s = s} so ended l' got pending' line g t =
     let ran : replayed (joined so.lines) ≡ ran_to s None =
     ap (λ b. run (lines_of b) 1 start) (sym (append-nil (joined so.lines))) ∙ ap (λ ls. run ls 1 start) (lines_of-joined so.lines [] so.clean ∙ append-nil so.lines) ∙ so.ran in
@@ -227,7 +227,7 @@ cut_off {l0 = l0} {l = l} {pending = pending} {s = s} so ended l' got pending' l
 
 -- a line over its greatest length came
 pub too_long : {l0 l before held : Option (List ℕ)} {pending : List ℕ} {s : Scene} {n : ℕ} (so : SoFar l0 l pending s n before held) (ended : Bool) (l' : Option (List ℕ))
-    (got pending' line : List ℕ) → Gave l l' got → Takes 4096 ended (pending ++ got) pending' line line_got.TooLong
+    (got pending' line : List ℕ) → Gave l l' got → Takes 4096 ended (pending ++ got) pending' line line_read.TooLong
     → Replays l0 l' ended before held (status_of (stopped.Fault kind.TooLong) n)
 too_long {l0 = l0} {l = l} {s = s} {n = n} so ended l' got pending' line g t = record {
   read = so.read ++ got;

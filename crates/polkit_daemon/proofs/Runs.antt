@@ -9,7 +9,7 @@ use Rattle.scenario_text.specs.declared.fault.LineKind.{LineKind}
 use Rattle.scenario_text.specs.declared.fault.LineKind.TheVariants as kind
 use Rattle.scenario_text.specs.Lines.{step_of}
 use Rattle.scenario_run.specs.Scene.{Scene, run_line}
-use Rattle.polkit_daemon.specs.Replay.{Ran, after_line, run, replayed, history_of, fault_of, Whatever, Extends, HasFault}
+use Rattle.polkit_daemon.specs.Replay.{Ran, after_line, run, replayed, replay_history, fault_of, Whatever, Extends, HasFault}
 use Rattle.polkit_daemon.proofs.Grows.{run_extends}
 
 -- no line has an LF
@@ -62,17 +62,17 @@ clean_one [] line clean lacks = (lacks, tt)
 clean_one (x ∷ xs) line clean lacks = (clean.0, clean_one xs line clean.1 lacks)
 
 -- what is known of the bytes from where they are run
-pub history_at : (bytes : List ℕ) (r : Ran) → replayed bytes ≡ r → history_of bytes ≡ r.scene.past
+pub history_at : (bytes : List ℕ) (r : Ran) → replayed bytes ≡ r → replay_history bytes ≡ r.scene.past
 history_at bytes r e = ap (λ (x : Ran). x.scene.past) e
 
 pub fault_at : (bytes : List ℕ) (r : Ran) → replayed bytes ≡ r → fault_of bytes ≡ r.fault
 fault_at bytes r e = ap (λ (x : Ran). x.fault) e
 
-pub extends_at : (bytes : List ℕ) (ls : List (List ℕ)) (n : ℕ) (s : Scene) → replayed bytes ≡ run ls n s → Extends (history_of bytes) s.past
+pub extends_at : (bytes : List ℕ) (ls : List (List ℕ)) (n : ℕ) (s : Scene) → replayed bytes ≡ run ls n s → Extends (replay_history bytes) s.past
 extends_at bytes ls n s e = subst (λ (r : Ran). Extends r.scene.past s.past) (sym e) (run_extends ls n s)
 
 pub next_extends : (bytes line : List ℕ) (ls : List (List ℕ)) (n : ℕ) (s next : Scene) → replayed bytes ≡ run (line ∷ ls) n s → run_line s line ≡ Ok next
-    → Extends (history_of bytes) next.past
+    → Extends (replay_history bytes) next.past
 next_extends bytes line ls n s next e ran = extends_at bytes ls (n + 1) next (e ∙ ap (λ r. after_line n s r (run ls (n + 1))) ran)
 
 pub has_fault : (bytes line : List ℕ) (ls : List (List ℕ)) (n : ℕ) (s : Scene) (k : LineKind) → replayed bytes ≡ run (line ∷ ls) n s → run_line s line ≡ Err k

@@ -6,7 +6,7 @@ use Rattle.authority_model.specs.Legal.{Legal}
 use Rattle.scenario_text.specs.declared.fault.LineKind.{LineKind}
 use Rattle.scenario_text.specs.declared.fault.LineKind.TheVariants as kind
 use Rattle.scenario_run.specs.Scene.{Scene, run_line}
-use Rattle.scenario_run.specs.Stages.{last_outputs}
+use Rattle.scenario_run.specs.ScenarioRuns.{last_outputs}
 use Rattle.scenario_run.specs.Text.{loads_of, outputs_text, counts_after, text_of}
 use Rattle.polkit_daemon.specs.declared.replaying.Stopped.{Stopped}
 use Rattle.polkit_daemon.specs.declared.replaying.Stopped.TheVariants as stopped
@@ -14,7 +14,7 @@ use Rattle.polkit_daemon.specs.declared.status.Status.{Status}
 use Rattle.polkit_daemon.specs.declared.status.Status.TheVariants as status
 
 -- the line led to the next scene, and a front of the text that it adds was written
-pub record IsCut (old : Scene) (line : List ℕ) (before held : Option (List ℕ)) : Type 0 where
+pub record IsLineCutOff (old : Scene) (line : List ℕ) (before held : Option (List ℕ)) : Type 0 where
   pub next : Scene
   pub added : List ℕ
   pub ran : run_line old line ≡ Ok next
@@ -23,7 +23,7 @@ pub record IsCut (old : Scene) (line : List ℕ) (before held : Option (List ℕ
   pub front : GotFront before held added
 
 -- the line led to the new scene, and all of the text that it adds was written
-pub record IsAnswered (old : Scene) (line : List ℕ) (new : Scene) (before held : Option (List ℕ)) : Type 0 where
+pub record IsLineAnswered (old : Scene) (line : List ℕ) (new : Scene) (before held : Option (List ℕ)) : Type 0 where
   pub added : List ℕ
   pub ran : run_line old line ≡ Ok new
   pub legal : Legal new.past
@@ -32,10 +32,10 @@ pub record IsAnswered (old : Scene) (line : List ℕ) (new : Scene) (before held
 
 -- what is known behind a line, by how it ended
 abbrev pub LineDone : Scene → List ℕ → Scene → Option (List ℕ) → Option (List ℕ) → Result (Unit {0}) Stopped → Type 0
-LineDone old line new before held (Ok done) = IsAnswered old line new before held
+LineDone old line new before held (Ok done) = IsLineAnswered old line new before held
 LineDone old line new before held (Err (stopped.Fault kind)) = (run_line old line ≡ Err kind) × (held ≡ before)
-LineDone old line new before held (Err stopped.WriteFault) = IsCut old line before held
-LineDone old line new before held (Err stopped.NoMemory) = (held ≡ before) ⊎ IsCut old line before held
+LineDone old line new before held (Err stopped.WriteFault) = IsLineCutOff old line before held
+LineDone old line new before held (Err stopped.NoMemory) = (held ≡ before) ⊎ IsLineCutOff old line before held
 
 -- the answers of the newest item were written, and counted; or a front of them
 abbrev pub LastWritten : List Item → (ℕ → ℕ) → (ℕ → ℕ) → Option (List ℕ) → Option (List ℕ) → Result (Unit {0}) Stopped → Type 0

@@ -8,6 +8,6 @@ use Rattle.polkit_daemon.specs.Counted.{counted}
 -- a replay that has read nothing
 pub record Begins (p : Playback) : Type 0 where
   pub reader : p.reader ≡ []
-  pub stage : p.stage ≡ start
+  pub scenario : p.scenario ≡ start
   pub counts : counted p.counts ≡ sent start.past
   pub number : p.number ≡ 1

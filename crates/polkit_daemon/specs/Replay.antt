@@ -32,8 +32,8 @@ abbrev pub replayed : List ℕ → Ran
 replayed bytes = run (lines_of bytes) 1 start
 
 -- the history that the bytes make, the newest item first
-abbrev pub history_of : List ℕ → List Item
-history_of bytes = (replayed bytes).scene.past
+abbrev pub replay_history : List ℕ → List Item
+replay_history bytes = (replayed bytes).scene.past
 
 -- the first line that has a fault, and its kind
 abbrev pub fault_of : List ℕ → Option (ℕ × LineKind)
@@ -64,20 +64,20 @@ pub record IsCutOff (read : List ℕ) (past : List Item) : Type 0 where
   pub ends : AreWholeLines whole
   pub no_line : Lacks 10 part
   pub no_fault : fault_of whole ≡ None
-  pub history_is : history_of whole ≡ past
+  pub history_is : replay_history whole ≡ past
 
 -- the bytes have this first fault, and the lines before it make this history
 abbrev pub HasFault : List Item → ℕ → LineKind → List ℕ → Type 0
-HasFault past line kind bytes = (fault_of bytes ≡ Some (line, kind)) × (history_of bytes ≡ past)
+HasFault past line kind bytes = (fault_of bytes ≡ Some (line, kind)) × (replay_history bytes ≡ past)
 
 -- the history is that of the first lines of the bytes
 abbrev pub IsBegun : List Item → List ℕ → Type 0
-IsBegun past bytes = Extends (history_of bytes) past
+IsBegun past bytes = Extends (replay_history bytes) past
 
 -- What the bytes read made, and what of its text was written, at each status of a replay.
 abbrev pub Replayed : Bool → List ℕ → List Item → List ℕ → Status → Type 0
 Replayed ended read past written status.Done =
-    IsTrue ended × (fault_of read ≡ None) × (history_of read ≡ past) × (written ≡ text_of past)
+    IsTrue ended × (fault_of read ≡ None) × (replay_history read ≡ past) × (written ≡ text_of past)
 Replayed ended read past written (status.BadLine line kind) = Whatever ended (HasFault past line kind) read × (written ≡ text_of past)
 Replayed ended read past written status.ReadFault = IsCutOff read past × (written ≡ text_of past)
 Replayed ended read past written status.WriteFault = Whatever ended (IsBegun past) read × IsFront written (text_of past)

@@ -1,9 +1,9 @@
 // The command that runs generated checks.
 ghost use Rattle.std.specs.Prelude.{◌≡◌, ◌≤◌, IfOk, OnOk};
-ghost use Rattle.pk_outside.specs.Causes.{Rose};
 ghost use Rattle.authority_model.specs.Legal.{Legal};
 ghost use Rattle.authority_model.specs.Licensed.{AllLicensed};
 ghost use Rattle.generated_run.specs.Run.{generated};
+ghost use Rattle.polkit_daemon.specs.Faults.{OutputFaults};
 ghost use Rattle.polkit_daemon.specs.Generate.{Generates, generated_line};
 
 use crate::status::Status;
@@ -27,16 +27,16 @@ fn generated_line(alloc: Global, checks: u32) -> Result<ByteList, NoMemory>
 /// counts the verdicts, the temporary authorizations and the entries.
 ///
 /// # Errors
-/// `WriteFault` only where the output counted a fault; `NoMemory`, which may come in place of any
-/// answer.
+/// `WriteFault` exactly where the output counted a fault, which its last write did; `NoMemory`, which
+/// may come in place of any other answer.
 pub fn load_run<O: Sink>(alloc: Global, checks: u32, output: &mut O) -> Status
     requires checks { (1 ≤ checks) × (checks ≤ 100000) }
 
     // What is written is the line of the generated run, as far as the status says.
     ensures run { Generates checks (O.held output.old) (O.held output.new) result }
 
-    // A fault of the outside is told only where the object counted it.
-    ensures write { result ≡ Status.WriteFault → Rose (O.faults output.old) (O.faults output.new) }
+    // A fault of the output is told exactly where it counted one, by its last write.
+    ensures write { OutputFaults O.held O.faults output.old output.new result }
 {
     let line = match generated_line(alloc, checks) {
         Ok(line) => line,

@@ -1,21 +1,22 @@
 // The command that replays a scenario.
-ghost use Rattle.std.specs.Prelude.{◌≡◌, ◌≤◌, IsNone, IfOk, OnOk, IsErrOf};
-ghost use Rattle.pk_outside.specs.Causes.{Rose};
+ghost use Rattle.std.specs.Prelude.{◌≡◌, ◌≤◌, IsNone, IfOk, OnOk};
 ghost use Rattle.authority_model.specs.Items.{sent};
 ghost use Rattle.authority_model.specs.Legal.{Legal};
 ghost use Rattle.polkit_daemon.specs.Counted.{counted};
+ghost use Rattle.polkit_daemon.specs.Faults.{InputFaults, OutputFaults, LineWrites};
 ghost use Rattle.polkit_daemon.specs.Lines.{LastWritten, LineDone, stop_of, status_of};
 ghost use Rattle.polkit_daemon.specs.Playing.{Begins};
 ghost use Rattle.polkit_daemon.specs.Replay.{Replays};
+ghost use Rattle.authority_core.specs.Journal.{AreAllowed};
 
 use crate::counts::Counts;
 use crate::status::Status;
 use crate::written::{WriteRefused, write_answers};
 use authority_core::Limits;
-use line_reader::{LineGot, LineReader};
+use line_reader::{LineRead, LineReader};
 use pk_outside::{Sink, Source, Tree};
 use pk_types::{NoMemory, Text};
-use scenario_run::{Stage, Taken};
+use scenario_run::{LineEffect, ScenarioRun};
 use scenario_text::{LineKind, MAX_LINE};
 use std::alloc::Global;
 
@@ -54,16 +55,22 @@ fn status_of(stopped: Stopped, number: u64) -> Status
 /// Writes the answers of the last entry.
 fn write_last<O: Sink>(
     alloc: Global,
-    stage: &Stage,
+    scenario: &ScenarioRun,
     counts: &mut Counts,
     output: &mut O,
 ) -> Result<(), Stopped>
-    ensures written { LastWritten stage.now.past (counted counts.old) (counted counts.new) (O.held output.old) (O.held output.new) result }
-    ensures legal { Legal stage.now.past }
-    ensures cause { IsErrOf result Stopped.WriteFault → Rose (O.faults output.old) (O.faults output.new) }
+    ensures written { LastWritten scenario.now.past (counted counts.old) (counted counts.new) (O.held output.old) (O.held output.new) result }
+    ensures legal { Legal scenario.now.past }
+    ensures faults { LineWrites O.held O.faults output.old output.new result }
     ensures later { O.faults output.old ≤ O.faults output.new }
 {
-    match write_answers(alloc, stage.history(), counts, stage.last_outputs(), output) {
+    match write_answers(
+        alloc,
+        scenario.history(),
+        counts,
+        scenario.last_outputs(),
+        output,
+    ) {
         Ok(()) => Ok(()),
         Err(WriteRefused::Failed) => Err(Stopped::WriteFault),
         Err(WriteRefused::NoMemory) => Err(Stopped::NoMemory),
@@ -73,22 +80,22 @@ fn write_last<O: Sink>(
 /// Does what a line says, and writes its answers.
 fn answer<O: Sink>(
     alloc: Global,
-    stage: &mut Stage,
+    scenario: &mut ScenarioRun,
     counts: &mut Counts,
     line: &[u8],
     number: u64,
     output: &mut O,
 ) -> Result<(), Stopped>
-    requires counted { counted counts.old ≡ sent stage.old.past }
-    requires legal { Legal stage.old.past }
-    ensures counted { OnOk result (counted counts.new ≡ sent stage.new.past) }
-    ensures done { LineDone stage.old line.now stage.new (O.held output.old) (O.held output.new) result }
-    ensures cause { IsErrOf result Stopped.WriteFault → Rose (O.faults output.old) (O.faults output.new) }
+    requires counted { counted counts.old ≡ sent scenario.old.past }
+    requires legal { Legal scenario.old.past }
+    ensures counted { OnOk result (counted counts.new ≡ sent scenario.new.past) }
+    ensures done { LineDone scenario.old line.now scenario.new (O.held output.old) (O.held output.new) result }
+    ensures faults { LineWrites O.held O.faults output.old output.new result }
     ensures later { O.faults output.old ≤ O.faults output.new }
 {
-    match stage.take_line(alloc, line, number) {
-        Ok(Taken::Draft) => Ok(()),
-        Ok(Taken::Entry) => write_last(alloc, stage, counts, output),
+    match scenario.take_line(alloc, line, number) {
+        Ok(LineEffect::Draft) => Ok(()),
+        Ok(LineEffect::Entry) => write_last(alloc, scenario, counts, output),
         Err(fault) => Err(stop_of(fault.kind)),
     }
 }
@@ -98,7 +105,7 @@ fn answer<O: Sink>(
 struct Playback {
     alloc: Global,
     reader: LineReader,
-    stage: Stage,
+    scenario: ScenarioRun,
     counts: Counts,
     line: Vec<u8>,
     /// The number of the next line, counted from 1.
@@ -108,15 +115,15 @@ struct Playback {
 impl Playback {
     /// A replay that has read nothing.
     fn start(alloc: Global, limits: Limits) -> Result<Playback, NoMemory>
-        requires limits { (limits.entries ≤ 1048576) × (limits.bytes ≤ 536870912) }
+        requires limits { AreAllowed limits }
         ensures begins { IfOk result Begins }
     {
         let reader = LineReader::new(alloc)?;
-        let stage = Stage::start(alloc, limits)?;
+        let scenario = ScenarioRun::start(alloc, limits)?;
         Ok(Playback {
             alloc,
             reader,
-            stage,
+            scenario,
             counts: Counts::new(alloc),
             line: Vec::new(alloc),
             number: 1,
@@ -127,15 +134,15 @@ impl Playback {
     fn run<I: Source, O: Sink>(&mut self, input: &mut I, output: &mut O) -> Status
         requires begins { Begins self.old }
         ensures run { Replays (I.left input.old) (I.left input.new) (I.ended input.new) (O.held output.old) (O.held output.new) result }
-        ensures read { result ≡ Status.ReadFault → Rose (I.faults input.old) (I.faults input.new) }
-        ensures write { result ≡ Status.WriteFault → Rose (O.faults output.old) (O.faults output.new) }
+        ensures read { InputFaults I.left I.faults input.old input.new result }
+        ensures write { OutputFaults O.held O.faults output.old output.new result }
     {
         'lines: loop {
             let number = self.number;
             match self.reader.next_line(input, &mut self.line, MAX_LINE) {
-                LineGot::Line => match answer(
+                LineRead::Line => match answer(
                     self.alloc,
-                    &mut self.stage,
+                    &mut self.scenario,
                     &mut self.counts,
                     &self.line,
                     number,
@@ -144,9 +151,9 @@ impl Playback {
                     Ok(()) => self.number = number + 1,
                     Err(stopped) => return status_of(stopped, number),
                 },
-                LineGot::Last => match answer(
+                LineRead::Last => match answer(
                     self.alloc,
-                    &mut self.stage,
+                    &mut self.scenario,
                     &mut self.counts,
                     &self.line,
                     number,
@@ -155,10 +162,10 @@ impl Playback {
                     Ok(()) => return Status::Done,
                     Err(stopped) => return status_of(stopped, number),
                 },
-                LineGot::End => return Status::Done,
-                LineGot::TooLong => return status_of(Stopped::Fault(LineKind::TooLong), number),
-                LineGot::ReadFault => return Status::ReadFault,
-                LineGot::NoMemory => return Status::NoMemory,
+                LineRead::End => return Status::Done,
+                LineRead::TooLong => return status_of(Stopped::Fault(LineKind::TooLong), number),
+                LineRead::ReadFault => return Status::ReadFault,
+                LineRead::NoMemory => return Status::NoMemory,
             }
         }
     }
@@ -171,8 +178,8 @@ impl Playback {
 ///
 /// # Errors
 /// `BadLine` only where that line has that first fault and the lines before it have none;
-/// `ReadFault` and `WriteFault` only where the input or the output counted a fault; `NoMemory`,
-/// which may come in place of any answer.
+/// `ReadFault` and `WriteFault` exactly where the input or the output counted a fault, which its last
+/// call did; `NoMemory`, which may come in place of any other answer.
 pub fn replay<T: Tree, I: Source, O: Sink>(
     alloc: Global,
     root: Option<&Text>,
@@ -182,15 +189,15 @@ pub fn replay<T: Tree, I: Source, O: Sink>(
     output: &mut O,
 ) -> Status
     requires root { IsNone root }
-    requires limits { (limits.entries ≤ 1048576) × (limits.bytes ≤ 536870912) }
+    requires limits { AreAllowed limits }
 
     // What is written is the text of the legal history that the bytes read make, as far as the
     // status says.
     ensures run { Replays (I.left input.old) (I.left input.new) (I.ended input.new) (O.held output.old) (O.held output.new) result }
 
-    // A fault of the outside is told only where the object counted it.
-    ensures read { result ≡ Status.ReadFault → Rose (I.faults input.old) (I.faults input.new) }
-    ensures write { result ≡ Status.WriteFault → Rose (O.faults output.old) (O.faults output.new) }
+    // A fault of the outside is told exactly where the object counted it, by its last call.
+    ensures read { InputFaults I.left I.faults input.old input.new result }
+    ensures write { OutputFaults O.held O.faults output.old output.new result }
 {
     match Playback::start(alloc, limits) {
         Ok(mut playback) => playback.run(input, output),

@@ -1,7 +1,7 @@
 // The top call: the command that the words name.
 ghost use Rattle.std.specs.Prelude.{◌≡◌, ◌↔◌, None, Some, ℕ};
-ghost use Rattle.pk_outside.specs.Causes.{Rose};
 ghost use Rattle.polkit_daemon.specs.Commands.{command_of};
+ghost use Rattle.polkit_daemon.specs.Faults.{InputFaults, OutputFaults};
 ghost use Rattle.polkit_daemon.specs.Generate.{Generates};
 ghost use Rattle.polkit_daemon.specs.Replay.{Replays};
 
@@ -15,12 +15,6 @@ use pk_types::Text;
 use std::alloc::Global;
 use std::sync::Wait;
 use std::thread::Threads;
-
-/// The greatest limits of a journal.
-const GREATEST: Limits = Limits {
-    entries: 1048576,
-    bytes: 536870912,
-};
 
 /// Runs the command that the words name, over these objects of the outside.
 ///
@@ -50,12 +44,12 @@ pub fn polkitd<R: Threads + Wait + Sync, T: Tree, N: Station, I: Source, O: Sink
         Generates checks (O.held output.old) (O.held output.new) result }
     ensures load_unread { (checks : ℕ) → command_of words.now ≡ Some (Command.Load checks) → I.left input.new ≡ I.left input.old }
 
-    // A fault of the outside is told only where the object counted it.
-    ensures read { result ≡ Status.ReadFault → Rose (I.faults input.old) (I.faults input.new) }
-    ensures write { result ≡ Status.WriteFault → Rose (O.faults output.old) (O.faults output.new) }
+    // A fault of the outside is told exactly where the object counted it, by its last call.
+    ensures read { InputFaults I.left I.faults input.old input.new result }
+    ensures write { OutputFaults O.held O.faults output.old output.new result }
 {
     match Command::read(words) {
-        Some(Command::Replay) => replay(alloc, None, GREATEST, tree, input, output),
+        Some(Command::Replay) => replay(alloc, None, Limits::GREATEST, tree, input, output),
         Some(Command::Load { checks }) => load_run(alloc, checks, output),
         None => Status::Usage,
     }

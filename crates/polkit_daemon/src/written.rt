@@ -1,9 +1,9 @@
 // Writes the answer lines of outputs.
-ghost use Rattle.std.specs.Prelude.{◌≡◌, ◌≤◌, [], ◌∷◌, OnOk, OnErr, IsErrOf};
-ghost use Rattle.pk_outside.specs.Causes.{Rose};
+ghost use Rattle.std.specs.Prelude.{◌≡◌, ◌≤◌, [], ◌∷◌, OnOk, OnErr};
 ghost use Rattle.pk_outside.specs.Streams.{Got, GotFront};
 ghost use Rattle.scenario_run.specs.Text.{outputs_text, counts_after};
 ghost use Rattle.polkit_daemon.specs.Counted.{counted};
+ghost use Rattle.polkit_daemon.specs.Faults.{AnswerWrites};
 
 use crate::counts::Counts;
 use authority_model::{History, Output};
@@ -55,7 +55,7 @@ fn write_answer<O: Sink>(
     ensures ok { OnOk result (Got (O.held output.old) (O.held output.new) (outputs_text history.now.loads (counted counts.old) (answer.now ∷ []))) }
     ensures counted { OnOk result (counted counts.new ≡ counts_after (counted counts.old) (answer.now ∷ [])) }
     ensures err { OnErr result (GotFront (O.held output.old) (O.held output.new) (outputs_text history.now.loads (counted counts.old) (answer.now ∷ []))) }
-    ensures cause { IsErrOf result WriteRefused.Failed → Rose (O.faults output.old) (O.faults output.new) }
+    ensures faults { AnswerWrites O.held O.faults output.old output.new result }
     ensures later { O.faults output.old ≤ O.faults output.new }
 {
     let serial = counts.next(answer.to)?;
@@ -75,7 +75,7 @@ pub fn write_answers<O: Sink>(
     ensures ok { OnOk result (Got (O.held output.old) (O.held output.new) (outputs_text history.now.loads (counted counts.old) answers.now)) }
     ensures counted { OnOk result (counted counts.new ≡ counts_after (counted counts.old) answers.now) }
     ensures err { OnErr result (GotFront (O.held output.old) (O.held output.new) (outputs_text history.now.loads (counted counts.old) answers.now)) }
-    ensures cause { IsErrOf result WriteRefused.Failed → Rose (O.faults output.old) (O.faults output.new) }
+    ensures faults { AnswerWrites O.held O.faults output.old output.new result }
     ensures later { O.faults output.old ≤ O.faults output.new }
 {
     for answer in answers {

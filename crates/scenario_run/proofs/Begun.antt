@@ -11,7 +11,7 @@ use Rattle.authority_model.specs.Items.{items_of, before, sent}
 use Rattle.authority_model.specs.Given.{next, event_given, load_given}
 use Rattle.authority_model.proofs.Pairing.{before_next, before_end}
 use Rattle.scenario_run.specs.Scene.{Scene, begun, acted, with_past}
-use Rattle.scenario_run.specs.Stages.{last_outputs}
+use Rattle.scenario_run.specs.ScenarioRuns.{last_outputs}
 use Rattle.scenario_run.specs.Text.{text_of, IsEntered}
 
 -- the first load has no outputs

@@ -6,12 +6,13 @@ use Rattle.std.specs.Str.{bytes_eq}
 use Rattle.pk_types.specs.declared.values.Implicit.{Implicit}
 use Rattle.authority_model.specs.declared.load.Loaded.{Loaded}
 use Rattle.authority_model.specs.declared.policy.Action.{Action}
+use Rattle.authority_model.specs.declared.policy.RuleEntry.{RuleEntry}
 use Rattle.authority_model.specs.declared.world.Group.{Group}
 use Rattle.authority_model.specs.declared.world.Process.{Process}
 use Rattle.authority_model.specs.declared.world.Session.{Session}
 use Rattle.authority_model.specs.declared.world.User.{User}
 use Rattle.authority_model.specs.Deciding.{imply_key}
-use Rattle.authority_model.specs.Rules.{action_of, annotation}
+use Rattle.authority_model.specs.Rules.{action_of, annotation, plain_action}
 use Rattle.authority_model.specs.Trust.{owner_key}
 use Rattle.scenario_text.specs.declared.fault.LineKind.{LineKind}
 use Rattle.scenario_text.specs.declared.fault.LineKind.TheVariants as kind
@@ -19,11 +20,19 @@ use Rattle.scenario_text.specs.declared.step.Step.{Step}
 use Rattle.scenario_text.specs.declared.step.Step.TheVariants as step
 use Rattle.scenario_text.specs.Faults.{◌>>=◌}
 use Rattle.scenario_text.specs.Words.{any_text_in}
-use Rattle.scenario_run.specs.Rows.{put_in, without_first, same_action, same_pair, same_user, same_group, same_session, same_process}
+use Rattle.scenario_run.specs.Rows.{put_in, put_last, without_first, same_action, same_pair, same_user, same_group, same_session, same_process}
 
 -- the draft with these actions
 abbrev pub with_actions : Loaded → List Action → Loaded
 with_actions draft actions = record draft { policy = record (draft.policy) { actions = actions } }
+
+-- the draft with these rules
+abbrev pub with_entries : Loaded → List RuleEntry → Loaded
+with_entries draft entries = record draft { policy = record (draft.policy) { entries = entries } }
+
+-- the draft with these administrators
+abbrev pub with_admins : Loaded → List (List ℕ) → Loaded
+with_admins draft admins = record draft { policy = record (draft.policy) { admins = admins } }
 
 -- the draft with these users
 abbrev pub with_users : Loaded → List User → Loaded
@@ -41,20 +50,13 @@ with_sessions draft sessions = record draft { world = record (draft.world) { ses
 abbrev pub with_processes : Loaded → List Process → Loaded
 with_processes draft processes = record draft { world = record (draft.world) { processes = processes } }
 
--- an action of an action line: it has no texts and no annotations
-abbrev pub plain_action : List ℕ → Implicit → Implicit → Implicit → Action
-plain_action id any inactive active = record {
-  id = id;
-  descriptions = [];
-  messages = [];
-  vendor = [];
-  vendor_url = [];
-  icon = [];
-  any = any;
-  inactive = inactive;
-  active = active;
-  annotations = [];
-}
+-- a rule of an entry line: it has no pairs
+abbrev pub plain_rule : List (List ℕ) → List (List ℕ) → Option Implicit → Option Implicit → Option Implicit → RuleEntry
+plain_rule identities actions any inactive active = record { identities = identities; actions = actions; any = any; inactive = inactive; active = active; pairs = [] }
+
+-- a rule is put last into the draft
+abbrev pub add_rule : Loaded → RuleEntry → Result Loaded LineKind
+add_rule draft rule = put_last draft.policy.entries rule >>= (λ rows. Ok (with_entries draft rows))
 
 -- an action is put into the draft
 abbrev pub put_action : Loaded → Action → Result Loaded LineKind
@@ -144,11 +146,13 @@ without_session draft id = with_sessions draft (without_first (λ s. bytes_eq s.
 abbrev pub without_action : Loaded → List ℕ → Loaded
 without_action draft id = with_actions draft (without_first (λ a. bytes_eq a.id id) draft.policy.actions)
 
--- what a step makes of the draft; a step that is no line of the draft, or that is not built, is refused
+-- what a step makes of the draft; a step that is not a line of the draft is refused
 abbrev pub drafted : Loaded → Step → Result Loaded LineKind
 drafted draft (step.Action id any inactive active) = put_action draft (plain_action id any inactive active)
 drafted draft (step.Imply id implied) = imply draft id implied
 drafted draft (step.Owner id identities) = own draft id identities
+drafted draft (step.Entry identities actions any inactive active) = add_rule draft (plain_rule identities actions any inactive active)
+drafted draft (step.Admins items) = Ok (with_admins draft items)
 drafted draft (step.User uid name gids) = put_user draft uid name gids
 drafted draft (step.Group gid name) = put_group draft gid name
 drafted draft (step.Session row) = put_session draft row
@@ -156,4 +160,7 @@ drafted draft (step.Process row) = put_process draft row
 drafted draft (step.GoneProcess pid start) = Ok (without_process draft pid start)
 drafted draft (step.GoneSession id) = Ok (without_session draft id)
 drafted draft (step.GoneAction id) = Ok (without_action draft id)
-drafted draft other = Err kind.Value
+drafted draft step.Blank = Err kind.Value
+drafted draft (step.At t) = Err kind.Value
+drafted draft step.Reload = Err kind.Value
+drafted draft (step.Act caller event) = Err kind.Value

@@ -1,5 +1,5 @@
 pub mod Rows
 pub mod Drafts
 pub mod Scene
-pub mod Stages
+pub mod ScenarioRuns
 pub mod Text

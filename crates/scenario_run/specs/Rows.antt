@@ -9,6 +9,7 @@ use Rattle.authority_model.specs.declared.world.Group.{Group}
 use Rattle.authority_model.specs.declared.world.Process.{Process}
 use Rattle.authority_model.specs.declared.world.Session.{Session}
 use Rattle.authority_model.specs.declared.world.User.{User}
+use Rattle.scenario_run.specs.declared.rows.TheConstants.{MAX_ROWS}
 
 -- the place of the first row with the key of this one
 abbrev pub place_of : {A : Type 0} → (A → A → Bool) → List A → A → Option ℕ
@@ -23,13 +24,17 @@ put_at rows row None = rows ++ row ∷ []
 abbrev pub put_by : {A : Type 0} → (A → A → Bool) → List A → A → List A
 put_by same rows row = put_at rows row (place_of same rows row)
 
--- the row's key is new, and 1,048,576 rows stand in the list
+-- the row's key is new, and as many rows as may stand in the list
 abbrev pub is_full_for : {A : Type 0} → (A → A → Bool) → List A → A → Bool
-is_full_for same rows row = is_none (place_of same rows row) && nat_le 1048576 (length rows)
+is_full_for same rows row = is_none (place_of same rows row) && nat_le MAX_ROWS (length rows)
 
 -- the rows with this one put in, unless the list is full for it
 abbrev pub put_in : {A : Type 0} → (A → A → Bool) → List A → A → Result (List A) LineKind
 put_in same rows row = if is_full_for same rows row then Err kind.Value else Ok (put_by same rows row)
+
+-- the rows with this one last, unless the list is full
+abbrev pub put_last : {A : Type 0} → List A → A → Result (List A) LineKind
+put_last rows row = if nat_le MAX_ROWS (length rows) then Err kind.Value else Ok (rows ++ row ∷ [])
 
 -- the rows without the one at a place
 abbrev pub without_at : {A : Type 0} → List A → Option ℕ → List A

@@ -10,7 +10,6 @@ use crate::rows::put;
 use crate::texts::{known_text, owners, text};
 use authority_model::{Action, Loaded};
 use pk_types::{ActionId, NoMemory, Pair, Text, TextList, TryCopy};
-use policy_decide::action;
 use scenario_text::LineKind;
 use std::alloc::Global;
 
@@ -104,7 +103,7 @@ pub fn imply(
     ensures ok { OnOk result (imply draft.old id.now implied.now ≡ Ok draft.new) }
     ensures err { IfErr result (λ kind. IsFaultOf kind (imply draft.old id.now implied.now)) }
 {
-    let Some(found) = action(&draft.policy, id.text()) else {
+    let Some(found) = draft.policy.action(id.text()) else {
         return Err(LineKind::Value);
     };
     let ids = one_more_id(alloc, implied_by(found), implied.bytes())?;
@@ -126,7 +125,7 @@ pub fn own(
     ensures ok { OnOk result (own draft.old id.now identities.now ≡ Ok draft.new) }
     ensures err { IfErr result (λ kind. IsFaultOf kind (own draft.old id.now identities.now)) }
 {
-    let Some(found) = action(&draft.policy, id.text()) else {
+    let Some(found) = draft.policy.action(id.text()) else {
         return Err(LineKind::Value);
     };
     let names = owners(alloc, identities.as_slice())?;

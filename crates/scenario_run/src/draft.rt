@@ -1,38 +1,22 @@
 // What a line makes of the draft.
 ghost use Rattle.std.specs.Prelude.{◌≡◌, ◌==◌, ◌&&◌, Ok, OnOk, IfErr, position, bytes_eq};
 ghost use Rattle.scenario_text.specs.Faults.{Gives, IsFaultOf};
-ghost use Rattle.scenario_run.specs.Drafts.{plain_action, user_row, put_user, group_row, put_group, put_session, put_process, without_process, without_session, without_action, drafted};
+ghost use Rattle.scenario_run.specs.Drafts.{add_rule, user_row, put_user, group_row, put_group, put_session, put_process, without_process, without_session, without_action, drafted};
 
 use crate::annotations::{imply, own, put_action};
-use crate::rows::{put, take_out};
+use crate::rows::{put, put_last, take_out};
 use crate::texts::{group_label, user_label};
-use authority_model::{Action, GidList, Group, Loaded, Process, Session, User};
+use authority_model::{Action, GidList, Group, Loaded, Process, RuleEntry, Session, User};
 use pk_types::{ActionId, Implicit, List, Text};
 use scenario_text::{LineKind, Step};
 use std::alloc::Global;
 
-/// The action of an action line: it has no texts and no annotations.
-fn plain_action(
-    alloc: Global,
-    id: ActionId,
-    any: Implicit,
-    inactive: Implicit,
-    active: Implicit,
-) -> Action
-    ensures action { result ≡ plain_action id any inactive active }
+/// Puts a rule last.
+fn add_rule(draft: &mut Loaded, rule: RuleEntry) -> Result<(), LineKind>
+    ensures ok { OnOk result (add_rule draft.old rule ≡ Ok draft.new) }
+    ensures err { IfErr result (λ kind. IsFaultOf kind (add_rule draft.old rule)) }
 {
-    Action {
-        id,
-        descriptions: List::new(alloc),
-        messages: List::new(alloc),
-        vendor: Text::new(alloc),
-        vendor_url: Text::new(alloc),
-        icon: Text::new(alloc),
-        any,
-        inactive,
-        active,
-        annotations: List::new(alloc),
-    }
+    put_last(&mut draft.policy.entries, rule)
 }
 
 fn user_row(alloc: Global, uid: u32, name: Text, gids: GidList) -> Result<User, LineKind>
@@ -147,9 +131,30 @@ pub fn change(alloc: Global, draft: &mut Loaded, step: Step) -> Result<(), LineK
             any,
             inactive,
             active,
-        } => put_action(draft, plain_action(alloc, id, any, inactive, active)),
+        } => put_action(draft, Action::plain(alloc, id, any, inactive, active)),
         Step::Imply { id, implied } => imply(alloc, draft, &id, &implied),
         Step::Owner { id, identities } => own(alloc, draft, &id, &identities),
+        Step::Entry {
+            identities,
+            actions,
+            any,
+            inactive,
+            active,
+        } => {
+            let rule = RuleEntry {
+                identities,
+                actions,
+                any,
+                inactive,
+                active,
+                pairs: List::new(alloc),
+            };
+            add_rule(draft, rule)
+        }
+        Step::Admins { items } => {
+            draft.policy.admins = items;
+            Ok(())
+        }
         Step::User { uid, name, gids } => put_user(alloc, draft, uid, name, gids),
         Step::Group { gid, name } => put_group(alloc, draft, gid, name),
         Step::Session { row } => put_session(draft, row),
@@ -166,6 +171,6 @@ pub fn change(alloc: Global, draft: &mut Loaded, step: Step) -> Result<(), LineK
             take_action(draft, &id);
             Ok(())
         }
-        _ => Err(LineKind::Value),
+        Step::Blank | Step::At { .. } | Step::Reload | Step::Act { .. } => Err(LineKind::Value),
     }
 }

@@ -1,13 +1,13 @@
 //! A run of scenario lines: the draft of the next load, and the authority that is asked.
 //!
 //! What a line makes of a scenario is a definition over plain lists (`specs/Scene.antt`); the
-//! stage is the code's own, and its calls are proved to be that definition.
+//! run is the code's own, and its calls are proved to be that definition.
 #![tactic(auto)]
 
 mod annotations;
 mod draft;
 mod rows;
-mod stage;
+mod scenario;
 mod texts;
 
-pub use stage::{Stage, Taken};
+pub use scenario::{LineEffect, ScenarioRun};

@@ -1,14 +1,14 @@
 // The lists of the draft, in which a line takes the place of the row with its key.
 ghost use Rattle.std.specs.Prelude.{◌≡◌, ◌<◌, Bool, Ok, OnOk, OnErr, IfErr, IfSome, length};
 ghost use Rattle.scenario_text.specs.Faults.{IsFaultOf};
-ghost use Rattle.scenario_run.specs.Rows.{place_of, put_in, without_at, same_action, same_pair, same_user, same_group, same_session, same_process};
+ghost use Rattle.scenario_run.specs.Rows.{place_of, put_in, put_last, without_at, same_action, same_pair, same_user, same_group, same_session, same_process};
 
 use authority_model::{Action, Group, Process, Session, User};
 use pk_types::{List, NoMemory, Pair};
 use scenario_text::LineKind;
 
 /// How many rows a list of the draft may have.
-const MAX_ROWS: usize = 1048576;
+pub const MAX_ROWS: usize = 1_048_576;
 
 /// A row of the draft, which stands once for its key.
 pub trait Keyed: Drop {
@@ -88,6 +88,19 @@ pub fn put<T: Keyed>(rows: &mut List<T>, row: T) -> Result<(), LineKind>
         rows.set(at, row);
         return Ok(());
     }
+    put_last(rows, row)
+}
+
+/// Puts a row last.
+///
+/// # Errors
+/// `Value` exactly where the list has its greatest number of rows; `NoMemory`. The rows then stay as
+/// they are.
+pub fn put_last<T: Drop>(rows: &mut List<T>, row: T) -> Result<(), LineKind>
+    ensures ok { OnOk result (put_last rows.old row ≡ Ok rows.new) }
+    ensures err { IfErr result (λ kind. IsFaultOf kind (put_last rows.old row)) }
+    ensures same { OnErr result (rows.new ≡ rows.old) }
+{
     if rows.len() >= MAX_ROWS {
         return Err(LineKind::Value);
     }

@@ -1,4 +1,3 @@
-pub mod Digits
 pub mod Orders
 pub mod PlainTexts
 pub mod Reading

@@ -14,13 +14,13 @@ use Rattle.scenario_text.specs.declared.first_word.DraftWord.TheVariants as draf
 use Rattle.scenario_text.specs.declared.first_word.FirstWord.{FirstWord}
 use Rattle.scenario_text.specs.declared.first_word.FirstWord.TheVariants as first
 use Rattle.scenario_text.specs.Faults.{◌>>=◌, fault_in}
-use Rattle.scenario_text.specs.Words.{number_in, number_32_in, number_64_in, caller_in, serial_in, implicit_in, text_in, id_in, local_in, active_in, session_in, texts_in, gids_in}
+use Rattle.scenario_text.specs.Words.{number_in, number_32_in, number_64_in, caller_in, serial_in, implicit_in, optional_implicit_in, some_value_in, text_in, id_in, local_in, active_in, session_in, texts_in, gids_in}
 use Rattle.scenario_text.specs.Subjects.{subject_in, identity_in}
 use Rattle.scenario_text.specs.DraftLines.{draft_line}
 use Rattle.scenario_text.specs.CallerLines.{serial_event, call_event, announce_call, options_in, check_call, check_event, text_call, subject_call, register_call, unregister_call, respond_call, caller_line}
 use Rattle.scenario_text.specs.Lines.{first_word_of, line_of, line_from, step_of_words, is_blank, step_of}
 use Rattle.scenario_text.specs.Order.{Faults, is_number, is_fault, kind_of_faults, behind_call, draft_faults, caller_faults, faults_of, count_or_kind, word_or_kind, kind_of_words, line_kind}
-use Rattle.scenario_text.proofs.WordFaults.{IsOfWord, number, value, OnlyNumber, OnlyValue, OnlyOfWord, value_of_word, number_only, caller_only, serial_only, implicit_only, text_only, id_only, local_only, active_only, session_only, texts_only, gids_only, subject_only, identity_only, options_only}
+use Rattle.scenario_text.proofs.WordFaults.{IsOfWord, number, value, OnlyNumber, OnlyValue, OnlyOfWord, value_of_word, number_only, caller_only, serial_only, implicit_only, optional_implicit_only, some_value_only, text_only, id_only, local_only, active_only, session_only, texts_only, gids_only, subject_only, identity_only, options_only}
 
 -- no word among these is a faulty number
 record NoNumber (faults : Faults) : Type 0 where
@@ -116,6 +116,31 @@ owner_order [] = refl
 owner_order (a ∷ []) = refl
 owner_order (a ∷ b ∷ c ∷ more) = refl
 
+entry_order : (args : List (List ℕ)) → IsDraftKind draft.Entry args
+entry_order (identities ∷ actions ∷ any ∷ inactive ∷ active ∷ []) =
+    let some = no_number (some_value_in any inactive active) (some_value_only any inactive active) no_words in
+    let last = no_number (optional_implicit_in active) (optional_implicit_only active) some in
+    let later = no_number (optional_implicit_in inactive) (optional_implicit_only inactive) last in
+    let values = no_number (optional_implicit_in any) (optional_implicit_only any) later in
+    let behind = no_number (texts_in actions) (texts_only actions) values in
+    (then_value (texts_in identities) _ (texts_only identities) behind
+    (λ is. then_value (texts_in actions) _ (texts_only actions) values
+    (λ os. then_value (optional_implicit_in any) _ (optional_implicit_only any) later
+    (λ a. then_value (optional_implicit_in inactive) _ (optional_implicit_only inactive) last
+    (λ b. then_value (optional_implicit_in active) _ (optional_implicit_only active) some
+    (λ c. then_value (some_value_in any inactive active) _ (some_value_only any inactive active) no_words (λ s. no_fault _))))))).same
+entry_order [] = refl
+entry_order (a ∷ []) = refl
+entry_order (a ∷ b ∷ []) = refl
+entry_order (a ∷ b ∷ c ∷ []) = refl
+entry_order (a ∷ b ∷ c ∷ d ∷ []) = refl
+entry_order (a ∷ b ∷ c ∷ d ∷ e ∷ f ∷ more) = refl
+
+admins_order : (args : List (List ℕ)) → IsDraftKind draft.Admins args
+admins_order (items ∷ []) = (then_value (texts_in items) _ (texts_only items) no_words (λ is. no_fault _)).same
+admins_order [] = refl
+admins_order (a ∷ b ∷ more) = refl
+
 user_order : (args : List (List ℕ)) → IsDraftKind draft.User args
 user_order (uid ∷ name ∷ gids ∷ []) =
     (number_first (number_32_in uid) _ (number_only _ uid)
@@ -184,6 +209,8 @@ draft_order draft.At args = at_order args
 draft_order draft.Action args = action_order args
 draft_order draft.Imply args = imply_order args
 draft_order draft.Owner args = owner_order args
+draft_order draft.Entry args = entry_order args
+draft_order draft.Admins args = admins_order args
 draft_order draft.User args = user_order args
 draft_order draft.Group args = group_order args
 draft_order draft.Session args = session_order args
@@ -320,6 +347,13 @@ subject_order : (caller serial subject : List ℕ) (said : Subject → Call)
 subject_order caller serial subject said =
     called caller serial (subject_call said subject) (then_values (subject_in subject) _ (subject_only subject) no_words (λ b. no_fault _))
 
+actions_order : (args : List (List ℕ)) → IsCallerKind caller_word.Actions args
+actions_order (caller ∷ serial ∷ locale ∷ []) = text_order caller serial locale _
+actions_order [] = refl
+actions_order (a ∷ []) = refl
+actions_order (a ∷ b ∷ []) = refl
+actions_order (a ∷ b ∷ c ∷ d ∷ more) = refl
+
 grants_order : (args : List (List ℕ)) → IsCallerKind caller_word.Grants args
 grants_order (caller ∷ serial ∷ subject ∷ []) = subject_order caller serial subject _
 grants_order [] = refl
@@ -353,6 +387,7 @@ caller_order caller_word.Respond args = respond_order args
 caller_order caller_word.Return args = return_order args
 caller_order caller_word.Dismiss args = dismiss_order args
 caller_order caller_word.Fail args = fail_order args
+caller_order caller_word.Actions args = actions_order args
 caller_order caller_word.Grants args = grants_order args
 caller_order caller_word.Revoke args = revoke_order args
 caller_order caller_word.RevokeId args = revoke_id_order args

@@ -8,7 +8,7 @@ use Rattle.scenario_text.specs.declared.check_options.CheckOptions.{CheckOptions
 use Rattle.scenario_text.specs.declared.fault.LineKind.{LineKind}
 use Rattle.scenario_text.specs.declared.fault.LineKind.TheVariants as kind
 use Rattle.scenario_text.specs.Faults.{◌>>=◌, or_fault}
-use Rattle.scenario_text.specs.Words.{number_in, positive, positive_in, caller_in, serial_in, number_32_in, number_64_in, implicit_in, any_text_in, text_in, id_in, local_in, active_in, session_in, each_in, texts_in, gids_in}
+use Rattle.scenario_text.specs.Words.{number_in, positive, positive_in, caller_in, serial_in, number_32_in, number_64_in, implicit_in, optional_implicit_in, some_value_in, any_text_in, text_in, id_in, local_in, active_in, session_in, each_in, texts_in, gids_in}
 use Rattle.scenario_text.specs.Subjects.{process_subject, bus_subject, subject_of_parts, subject_of, subject_in, identity_of_parts, identity_in}
 use Rattle.scenario_text.specs.CallerLines.{no_options, asking, with_cancel, cancel_of, cancel_in, options_in}
 
@@ -89,6 +89,15 @@ if_value b r only = only_if (λ k. k ≡ kind.Value) b r (Err kind.Value) only (
 
 pub implicit_only : (word : List ℕ) → OnlyValue (implicit_in word)
 implicit_only word = only_or kind.Value (implicit_of_word word)
+
+pub optional_implicit_only : (word : List ℕ) → OnlyValue (optional_implicit_in word)
+optional_implicit_only word =
+    only_if (λ k. k ≡ kind.Value) _ (Ok None) _ (only_ok (λ k. k ≡ kind.Value) None)
+    (only_bind (λ k. k ≡ kind.Value) (implicit_in word) _ (implicit_only word) (λ value. only_ok (λ k. k ≡ kind.Value) (Some value)))
+
+pub some_value_only : (any inactive active : List ℕ) → OnlyValue (some_value_in any inactive active)
+some_value_only any inactive active =
+    only_if (λ k. k ≡ kind.Value) _ (Err kind.Value) (Ok true) (out_of_form (Err kind.Value) refl) (only_ok (λ k. k ≡ kind.Value) true)
 
 any_text_only : (word : List ℕ) → OnlyValue (any_text_in word)
 any_text_only word = if_value _ (Ok word) (only_ok (λ k. k ≡ kind.Value) word)

@@ -5,6 +5,7 @@ use Rattle.authority_model.specs.declared.event.Call.{Call}
 use Rattle.authority_model.specs.declared.event.Call.TheVariants as call
 use Rattle.authority_model.specs.declared.event.Event.{Event}
 use Rattle.authority_model.specs.declared.event.Event.TheVariants as event
+use Rattle.authority_model.specs.declared.interaction.TheConstants.{ALLOW_USER_INTERACTION}
 use Rattle.pk_types.specs.declared.values.Subject.{Subject}
 use Rattle.authority_model.specs.Words.{after_front}
 use Rattle.scenario_text.specs.declared.fault.LineKind.{LineKind}
@@ -66,7 +67,7 @@ no_options = record { flags = 0; cancel = [] }
 
 -- `ask` is flag bit 0
 abbrev pub asking : CheckOptions
-asking = record { flags = 1; cancel = [] }
+asking = record { flags = ALLOW_USER_INTERACTION; cancel = [] }
 
 -- the options with this cancellation id
 abbrev pub with_cancel : CheckOptions → Result (List ℕ) LineKind → Result CheckOptions LineKind
@@ -172,6 +173,11 @@ abbrev pub fail_line : List (List ℕ) → Result Step LineKind
 fail_line (caller ∷ serial ∷ []) = serial_event caller serial (error_named (codes "org.freedesktop.PolicyKit1.Error.Failed"))
 fail_line other = Err kind.Count
 
+-- actions N S LOCALE
+abbrev pub actions_line : List (List ℕ) → Result Step LineKind
+actions_line (caller ∷ serial ∷ locale ∷ []) = call_event caller serial (text_call call.EnumerateActions locale)
+actions_line other = Err kind.Count
+
 -- a call with one subject
 abbrev pub subject_call : (Subject → Call) → List ℕ → Result Call LineKind
 subject_call said subject = do
@@ -206,6 +212,7 @@ caller_line caller_word.Respond args = respond_line args
 caller_line caller_word.Return args = return_line args
 caller_line caller_word.Dismiss args = dismiss_line args
 caller_line caller_word.Fail args = fail_line args
+caller_line caller_word.Actions args = actions_line args
 caller_line caller_word.Grants args = grants_line args
 caller_line caller_word.Revoke args = revoke_line args
 caller_line caller_word.RevokeId args = revoke_id_line args

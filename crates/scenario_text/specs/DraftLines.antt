@@ -7,7 +7,7 @@ use Rattle.scenario_text.specs.declared.first_word.DraftWord.TheVariants as draf
 use Rattle.scenario_text.specs.declared.step.Step.{Step}
 use Rattle.scenario_text.specs.declared.step.Step.TheVariants as step
 use Rattle.scenario_text.specs.Faults.{◌>>=◌}
-use Rattle.scenario_text.specs.Words.{number_in, number_32_in, number_64_in, implicit_in, text_in, id_in, local_in, active_in, session_in, texts_in, gids_in}
+use Rattle.scenario_text.specs.Words.{number_in, number_32_in, number_64_in, implicit_in, optional_implicit_in, some_value_in, text_in, id_in, local_in, active_in, session_in, texts_in, gids_in}
 
 -- at T, where T is a moment in seconds up to 2^62
 abbrev pub at_line : List (List ℕ) → Result Step LineKind
@@ -41,6 +41,25 @@ owner_line (id ∷ identities ∷ []) = do
   os ← texts_in identities
   Ok (step.Owner i os)
 owner_line other = Err kind.Count
+
+-- entry IDENTITIES ACTIONS ANY INACTIVE ACTIVE, where `-` stands for no value, and one value stands
+abbrev pub entry_line : List (List ℕ) → Result Step LineKind
+entry_line (identities ∷ actions ∷ any ∷ inactive ∷ active ∷ []) = do
+  is ← texts_in identities
+  os ← texts_in actions
+  a ← optional_implicit_in any
+  b ← optional_implicit_in inactive
+  c ← optional_implicit_in active
+  some ← some_value_in any inactive active
+  Ok (step.Entry is os a b c)
+entry_line other = Err kind.Count
+
+-- admins LIST
+abbrev pub admins_line : List (List ℕ) → Result Step LineKind
+admins_line (items ∷ []) = do
+  is ← texts_in items
+  Ok (step.Admins is)
+admins_line other = Err kind.Count
 
 -- user UID NAME GIDS, whose numbers are read first
 abbrev pub user_line : List (List ℕ) → Result Step LineKind
@@ -112,6 +131,8 @@ draft_line draft.At args = at_line args
 draft_line draft.Action args = action_line args
 draft_line draft.Imply args = imply_line args
 draft_line draft.Owner args = owner_line args
+draft_line draft.Entry args = entry_line args
+draft_line draft.Admins args = admins_line args
 draft_line draft.User args = user_line args
 draft_line draft.Group args = group_line args
 draft_line draft.Session args = session_line args

@@ -4,6 +4,7 @@ use Rattle.std.specs.Option.{option_map}
 use Rattle.std.specs.Str.{bytes_eq}
 use Rattle.byte_pieces.specs.Pieces.{pieces_of}
 use Rattle.authority_model.specs.Lists.{or_else}
+use Rattle.scenario_text.specs.declared.lines.TheConstants.{MAX_LINE}
 use Rattle.scenario_text.specs.declared.fault.LineKind.{LineKind}
 use Rattle.scenario_text.specs.declared.fault.LineKind.TheVariants as kind
 use Rattle.scenario_text.specs.declared.first_word.CallerWord.{CallerWord}
@@ -24,6 +25,8 @@ draft_word_of word =
     else if bytes_eq word (codes "action") then Some draft.Action
     else if bytes_eq word (codes "imply") then Some draft.Imply
     else if bytes_eq word (codes "owner") then Some draft.Owner
+    else if bytes_eq word (codes "entry") then Some draft.Entry
+    else if bytes_eq word (codes "admins") then Some draft.Admins
     else if bytes_eq word (codes "user") then Some draft.User
     else if bytes_eq word (codes "group") then Some draft.Group
     else if bytes_eq word (codes "session") then Some draft.Session
@@ -48,6 +51,7 @@ caller_word_of word =
     else if bytes_eq word (codes "return") then Some caller_word.Return
     else if bytes_eq word (codes "dismiss") then Some caller_word.Dismiss
     else if bytes_eq word (codes "fail") then Some caller_word.Fail
+    else if bytes_eq word (codes "actions") then Some caller_word.Actions
     else if bytes_eq word (codes "grants") then Some caller_word.Grants
     else if bytes_eq word (codes "revoke") then Some caller_word.Revoke
     else if bytes_eq word (codes "revoke-id") then Some caller_word.RevokeId
@@ -79,6 +83,6 @@ is_blank line = (length line == 0) || (slice_index line 0 == 35)
 -- a line of at most 4,096 bytes, whose words have one space between them
 unfoldable pub step_of : List ℕ → Result Step LineKind
 step_of line =
-    if nat_lt 4096 (length line) then Err kind.TooLong
+    if nat_lt MAX_LINE (length line) then Err kind.TooLong
     else if is_blank line then Ok step.Blank
     else step_of_words (pieces_of 32 line)

@@ -2,6 +2,7 @@
 use Rattle.std.specs.Prelude.{ℕ, Bool, true, false, ◌^◌, nat_lt, List, [], ◌∷◌, length, Option, None, Some, if◌then◌else◌}
 use Rattle.std.specs.List.{list_any}
 use Rattle.byte_pieces.specs.Pieces.{pieces_of}
+use Rattle.scenario_text.specs.declared.lines.TheConstants.{MAX_LINE}
 use Rattle.scenario_text.specs.declared.fault.LineKind.{LineKind}
 use Rattle.scenario_text.specs.declared.fault.LineKind.TheVariants as kind
 use Rattle.scenario_text.specs.declared.first_word.CallerWord.{CallerWord}
@@ -11,7 +12,7 @@ use Rattle.scenario_text.specs.declared.first_word.DraftWord.TheVariants as draf
 use Rattle.scenario_text.specs.declared.first_word.FirstWord.{FirstWord}
 use Rattle.scenario_text.specs.declared.first_word.FirstWord.TheVariants as first
 use Rattle.scenario_text.specs.Faults.{fault_in}
-use Rattle.scenario_text.specs.Words.{number_in, number_32_in, number_64_in, caller_in, serial_in, implicit_in, text_in, id_in, local_in, active_in, session_in, texts_in, gids_in}
+use Rattle.scenario_text.specs.Words.{number_in, number_32_in, number_64_in, caller_in, serial_in, implicit_in, optional_implicit_in, some_value_in, text_in, id_in, local_in, active_in, session_in, texts_in, gids_in}
 use Rattle.scenario_text.specs.Subjects.{subject_in, identity_in}
 use Rattle.scenario_text.specs.CallerLines.{options_in}
 use Rattle.scenario_text.specs.Lines.{first_word_of, is_blank}
@@ -45,6 +46,9 @@ draft_faults draft.Action (id ∷ any ∷ inactive ∷ active ∷ []) =
     Some (fault_in (id_in id) ∷ fault_in (implicit_in any) ∷ fault_in (implicit_in inactive) ∷ fault_in (implicit_in active) ∷ [])
 draft_faults draft.Imply (id ∷ implied ∷ []) = Some (fault_in (id_in id) ∷ fault_in (id_in implied) ∷ [])
 draft_faults draft.Owner (id ∷ identities ∷ []) = Some (fault_in (id_in id) ∷ fault_in (texts_in identities) ∷ [])
+draft_faults draft.Entry (identities ∷ actions ∷ any ∷ inactive ∷ active ∷ []) =
+    Some (fault_in (texts_in identities) ∷ fault_in (texts_in actions) ∷ fault_in (optional_implicit_in any) ∷ fault_in (optional_implicit_in inactive) ∷ fault_in (optional_implicit_in active) ∷ fault_in (some_value_in any inactive active) ∷ [])
+draft_faults draft.Admins (items ∷ []) = Some (fault_in (texts_in items) ∷ [])
 draft_faults draft.User (uid ∷ name ∷ gids ∷ []) = Some (fault_in (number_32_in uid) ∷ fault_in (text_in name) ∷ fault_in (gids_in gids) ∷ [])
 draft_faults draft.Group (gid ∷ name ∷ []) = Some (fault_in (number_32_in gid) ∷ fault_in (text_in name) ∷ [])
 draft_faults draft.Session (id ∷ uid ∷ local ∷ active ∷ []) =
@@ -75,6 +79,7 @@ caller_faults caller_word.Respond (caller ∷ serial ∷ cookie ∷ identity ∷
 caller_faults caller_word.Return (caller ∷ serial ∷ []) = behind_call caller serial []
 caller_faults caller_word.Dismiss (caller ∷ serial ∷ []) = behind_call caller serial []
 caller_faults caller_word.Fail (caller ∷ serial ∷ []) = behind_call caller serial []
+caller_faults caller_word.Actions (caller ∷ serial ∷ locale ∷ []) = behind_call caller serial (fault_in (text_in locale) ∷ [])
 caller_faults caller_word.Grants (caller ∷ serial ∷ subject ∷ []) = behind_call caller serial (fault_in (subject_in subject) ∷ [])
 caller_faults caller_word.Revoke (caller ∷ serial ∷ subject ∷ []) = behind_call caller serial (fault_in (subject_in subject) ∷ [])
 caller_faults caller_word.RevokeId (caller ∷ serial ∷ id ∷ []) = behind_call caller serial (fault_in (text_in id) ∷ [])
@@ -103,6 +108,6 @@ kind_of_words (word ∷ args) = word_or_kind (first_word_of word) args
 -- the fault of a line: TooLong, Word, Count, Number, Value, the first of them that it has
 unfoldable pub line_kind : List ℕ → Option LineKind
 line_kind line =
-    if nat_lt 4096 (length line) then Some kind.TooLong
+    if nat_lt MAX_LINE (length line) then Some kind.TooLong
     else if is_blank line then None
     else kind_of_words (pieces_of 32 line)

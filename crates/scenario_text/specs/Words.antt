@@ -43,6 +43,14 @@ serial_in word = positive_in (2 ^ 32 - 1) word
 abbrev pub implicit_in : List ℕ → Result Implicit LineKind
 implicit_in word = or_fault kind.Value (implicit_of_word word)
 
+-- an implicit value that is optional: `-` for none
+abbrev pub optional_implicit_in : List ℕ → Result (Option Implicit) LineKind
+optional_implicit_in word = if bytes_eq word (codes "-") then Ok None else implicit_in word >>= (λ value. Ok (Some value))
+
+-- whether one of three words stands for a value, so that not each of them is `-`
+abbrev pub some_value_in : List ℕ → List ℕ → List ℕ → Result Bool LineKind
+some_value_in any inactive active = if bytes_eq any (codes "-") && bytes_eq inactive (codes "-") && bytes_eq active (codes "-") then Err kind.Value else Ok true
+
 -- a text
 abbrev pub any_text_in : List ℕ → Result (List ℕ) LineKind
 any_text_in word = if is_none (text_fault_of word) then Ok word else Err kind.Value

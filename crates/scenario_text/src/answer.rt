@@ -1,12 +1,12 @@
 // The line that answers with an output.
-ghost use Rattle.std.specs.Prelude.{◌≡◌, ◌++◌, codes, length, string_bytes, IfOk};
+ghost use Rattle.std.specs.Prelude.{◌≡◌, ◌++◌, codes, length, string_bytes, IfOk, OnOk};
 ghost use Rattle.std.specs.Fmt.{decimal};
 ghost use Rattle.authority_model.specs.Cookies.{cookie_text};
 ghost use Rattle.scenario_text.specs.Escapes.{escaped, identities_text};
 ghost use Rattle.scenario_text.specs.Answers.{action_count, answer_text, words_line, message_line, answer_line};
 
-use crate::escape::{cookie_words, escaped, grants_words, identities_words};
-use crate::verdict::{cause_words, verdict_words};
+use crate::escape::{push_escaped, push_grants, push_identities};
+use crate::verdict::{push_cause, push_verdict};
 use authority_model::{Answer, Cookie, History, Loaded, Message, Output};
 use pk_types::{ByteList, Identity, List, NoMemory, Text};
 use std::alloc::{AllocError, Global};
@@ -24,81 +24,116 @@ fn action_count(loads: &[Loaded], load: u32) -> usize
     }
 }
 
-fn answer_words(alloc: Global, loads: &[Loaded], answer: &Answer) -> Result<String, AllocError>
-    ensures text { IfOk result (λ text. string_bytes text ≡ answer_text loads.now answer.now) }
+fn push_answer(
+    alloc: Global,
+    text: &mut String,
+    loads: &[Loaded],
+    answer: &Answer,
+) -> Result<(), AllocError>
+    ensures ok { OnOk result (string_bytes text.new ≡ string_bytes text.old ++ answer_text loads.now answer.now) }
 {
     match answer {
-        Answer::Verdict(verdict) => verdict_words(alloc, verdict),
-        Answer::Done => String::from_str(alloc, "done"),
+        Answer::Verdict(verdict) => push_verdict(alloc, text, verdict),
+        Answer::Done => text.push_str("done"),
         Answer::Name(name) => {
-            let name = escaped(alloc, name.bytes())?;
-            format!(in alloc; "name {name}")
+            text.push_str("name ")?;
+            push_escaped(text, name.bytes())
         }
         Answer::Actions { load, locale: _ } => {
             let count = action_count(loads, *load);
-            format!(in alloc; "actions {count}")
+            write!(text, "actions {count}")
         }
         Answer::Grants(rows) => {
-            let rows = grants_words(alloc, rows.as_slice())?;
-            format!(in alloc; "grants {rows}")
+            text.push_str("grants ")?;
+            push_grants(text, rows.as_slice())
         }
         Answer::Refused(cause) => {
-            let cause = cause_words(*cause);
-            format!(in alloc; "error {cause}")
+            text.push_str("error ")?;
+            push_cause(text, *cause)
         }
     }
 }
 
-fn reply_line(alloc: Global, to: u32, serial: u32, words: &str) -> Result<String, AllocError>
-    ensures line { IfOk result (λ line. string_bytes line ≡ words_line (decimal to) (decimal serial) words.now) }
+fn push_reply(
+    alloc: Global,
+    text: &mut String,
+    loads: &[Loaded],
+    to: u32,
+    serial: u32,
+    answer: &Answer,
+) -> Result<(), AllocError>
+    ensures ok { OnOk result (string_bytes text.new ≡ string_bytes text.old ++ words_line (decimal to) (decimal serial) (answer_text loads.now answer.now)) }
 {
-    format!(in alloc; "{to} {serial} {words}\n")
+    write!(text, "{to} {serial} ")?;
+    push_answer(alloc, text, loads, answer)?;
+    text.push_str("\n")
 }
 
-fn begin_words(
-    alloc: Global,
+/// Adds an action and those who may answer, each behind a space.
+fn push_asked(text: &mut String, action: &Text, identities: &[Identity]) -> Result<(), AllocError>
+    ensures ok { OnOk result (string_bytes text.new ≡ string_bytes text.old ++ (codes " " ++ (escaped action.now ++ (codes " " ++ identities_text identities.now)))) }
+{
+    text.push_str(" ")?;
+    push_escaped(text, action.bytes())?;
+    text.push_str(" ")?;
+    push_identities(text, identities)
+}
+
+/// Adds what a Begin shows: its serial, its cookie, its action and those who may answer.
+fn push_begin_words(
+    text: &mut String,
     serial: u32,
     cookie: Cookie,
     action: &Text,
     identities: &[Identity],
-) -> Result<String, AllocError>
-    ensures text { IfOk result (λ text. string_bytes text ≡ decimal serial ++ (codes " " ++ (cookie_text cookie ++ (codes " " ++ (escaped action.now ++ (codes " " ++ identities_text identities.now)))))) }
+) -> Result<(), AllocError>
+    ensures ok { OnOk result (string_bytes text.new ≡ string_bytes text.old ++ (decimal serial ++ (codes " " ++ (cookie_text cookie ++ (codes " " ++ (escaped action.now ++ (codes " " ++ identities_text identities.now))))))) }
 {
-    let cookie = cookie_words(alloc, cookie)?;
-    let action = escaped(alloc, action.bytes())?;
-    let identities = identities_words(alloc, identities)?;
-    format!(in alloc; "{serial} {cookie} {action} {identities}")
+    write!(text, "{serial} ")?;
+    cookie.push_text(text)?;
+    push_asked(text, action, identities)
 }
 
-fn begin_line(alloc: Global, to: u32, words: &str) -> Result<String, AllocError>
-    ensures line { IfOk result (λ line. string_bytes line ≡ words_line (decimal to) (codes "begin") words.now) }
+fn push_begin(
+    text: &mut String,
+    to: u32,
+    serial: u32,
+    cookie: Cookie,
+    action: &Text,
+    identities: &[Identity],
+) -> Result<(), AllocError>
+    ensures ok { OnOk result (string_bytes text.new ≡ string_bytes text.old ++ words_line (decimal to) (codes "begin") (decimal serial ++ (codes " " ++ (cookie_text cookie ++ (codes " " ++ (escaped action.now ++ (codes " " ++ identities_text identities.now))))))) }
 {
-    format!(in alloc; "{to} begin {words}\n")
+    write!(text, "{to} begin ")?;
+    push_begin_words(text, serial, cookie, action, identities)?;
+    text.push_str("\n")
 }
 
-fn end_line(alloc: Global, to: u32, cookie: &str) -> Result<String, AllocError>
-    ensures line { IfOk result (λ line. string_bytes line ≡ words_line (decimal to) (codes "end") cookie.now) }
+fn push_end(text: &mut String, to: u32, cookie: Cookie) -> Result<(), AllocError>
+    ensures ok { OnOk result (string_bytes text.new ≡ string_bytes text.old ++ words_line (decimal to) (codes "end") (cookie_text cookie)) }
 {
-    format!(in alloc; "{to} end {cookie}\n")
+    write!(text, "{to} end ")?;
+    cookie.push_text(text)?;
+    text.push_str("\n")
 }
 
-fn message_text(
+/// Adds the line of a message to a connection, which is the one with this serial among those sent to
+/// it.
+fn push_message(
     alloc: Global,
+    text: &mut String,
     loads: &[Loaded],
     to: u32,
     serial: u32,
     message: &Message,
-) -> Result<String, AllocError>
-    ensures line { IfOk result (λ line. string_bytes line ≡ message_line loads.now to serial message.now) }
+) -> Result<(), AllocError>
+    ensures ok { OnOk result (string_bytes text.new ≡ string_bytes text.old ++ message_line loads.now to serial message.now) }
 {
     match message {
         Message::Reply {
             serial: answered,
             answer,
-        } => {
-            let words = answer_words(alloc, loads, answer)?;
-            reply_line(alloc, to, *answered, words.as_str())
-        }
+        } => push_reply(alloc, text, loads, to, *answered, answer),
         Message::Begin {
             path: _,
             action,
@@ -107,17 +142,11 @@ fn message_text(
             details: _,
             cookie,
             identities,
-        } => {
-            let words = begin_words(alloc, serial, *cookie, action, identities.as_slice())?;
-            begin_line(alloc, to, words.as_str())
-        }
-        Message::CancelBegin { path: _, cookie } => {
-            let cookie = cookie_words(alloc, *cookie)?;
-            end_line(alloc, to, cookie.as_str())
-        }
-        Message::Changed => format!(in alloc; "{to} changed\n"),
-        Message::LoadWanted => Ok(String::new(alloc)),
-        Message::StopWanted => Ok(String::new(alloc)),
+        } => push_begin(text, to, serial, *cookie, action, identities.as_slice()),
+        Message::CancelBegin { path: _, cookie } => push_end(text, to, *cookie),
+        Message::Changed => write!(text, "{to} changed\n"),
+        Message::LoadWanted => Ok(()),
+        Message::StopWanted => Ok(()),
     }
 }
 
@@ -136,12 +165,14 @@ pub fn answer_text(
 ) -> Result<ByteList, NoMemory>
     ensures line { IfOk result (λ line. line ≡ answer_line output.now history.now serial) }
 {
-    let line = message_text(
+    let mut line = String::new(alloc);
+    push_message(
         alloc,
+        &mut line,
         history.loads.as_slice(),
         output.to,
         serial,
         &output.message,
     )?;
-    List::try_from_slice(alloc, line.as_bytes())
+    Ok(List::from_vec(line.into_bytes()))
 }

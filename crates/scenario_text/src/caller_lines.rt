@@ -3,7 +3,7 @@ ghost use Rattle.std.specs.Prelude.{◌≡◌, ◌≤◌, false, [], ◌∷◌, 
 ghost use Rattle.pk_types.specs.Text.{IsText};
 ghost use Rattle.scenario_text.specs.Faults.{Gives};
 ghost use Rattle.scenario_text.specs.Runs.{IsRunnable};
-ghost use Rattle.scenario_text.specs.CallerLines.{serial_event, check_event, error_named, peer_line, depart_line, announce_line, check_line, cancel_line, register_line, unregister_line, respond_line, return_line, dismiss_line, fail_line, grants_line, revoke_line, revoke_id_line, caller_line};
+ghost use Rattle.scenario_text.specs.CallerLines.{serial_event, check_event, error_named, peer_line, depart_line, announce_line, check_line, cancel_line, register_line, unregister_line, respond_line, return_line, dismiss_line, fail_line, actions_line, grants_line, revoke_line, revoke_id_line, caller_line};
 
 use crate::check_options::CheckOptions;
 use crate::fault::LineKind;
@@ -315,6 +315,27 @@ fn fail_words(alloc: Global, args: &[&[u8]]) -> Result<Step, LineKind>
     }
 }
 
+fn actions(alloc: Global, caller: &[u8], serial: &[u8], locale: &[u8]) -> Result<Step, LineKind>
+    ensures value { Gives result (actions_line (caller.now ∷ serial.now ∷ locale.now ∷ [])) }
+    ensures runs { IfOk result IsRunnable }
+{
+    let caller = caller_word(caller)?;
+    let serial = serial_word(serial)?;
+    let locale = text_word(alloc, locale)?;
+    Ok(called(caller, serial, Call::EnumerateActions { locale }))
+}
+
+/// `actions N S LOCALE`.
+fn actions_words(alloc: Global, args: &[&[u8]]) -> Result<Step, LineKind>
+    ensures value { Gives result (actions_line (map (λ word. word.now) args.now)) }
+    ensures runs { IfOk result IsRunnable }
+{
+    match args {
+        [caller, serial, locale] => actions(alloc, caller, serial, locale),
+        _ => Err(LineKind::Count),
+    }
+}
+
 fn grants(alloc: Global, caller: &[u8], serial: &[u8], subject: &[u8]) -> Result<Step, LineKind>
     ensures value { Gives result (grants_line (caller.now ∷ serial.now ∷ subject.now ∷ [])) }
     ensures runs { IfOk result IsRunnable }
@@ -395,6 +416,7 @@ pub fn caller_step(alloc: Global, word: CallerWord, args: &[&[u8]]) -> Result<St
         CallerWord::Return => returned_words(args),
         CallerWord::Dismiss => dismiss_words(alloc, args),
         CallerWord::Fail => fail_words(alloc, args),
+        CallerWord::Actions => actions_words(alloc, args),
         CallerWord::Grants => grants_words(alloc, args),
         CallerWord::Revoke => revoke_words(alloc, args),
         CallerWord::RevokeId => revoke_id_words(alloc, args),

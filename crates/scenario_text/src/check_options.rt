@@ -6,11 +6,9 @@ ghost use Rattle.scenario_text.specs.CallerLines.{cancel_in, options_in};
 use crate::fault::LineKind;
 use crate::subjects::behind;
 use crate::words::text_word;
+use authority_model::ALLOW_USER_INTERACTION;
 use pk_types::Text;
 use std::alloc::Global;
-
-/// The flag of a check that allows user interaction.
-const ASK: u32 = 1;
 
 /// The flags and the cancellation id of a check.
 #[derive(Drop)]
@@ -35,7 +33,10 @@ fn one(alloc: Global, word: &[u8]) -> Result<CheckOptions, LineKind>
 {
     if word == b"ask".as_slice() {
         let cancel = Text::new(alloc);
-        return Ok(CheckOptions { flags: ASK, cancel });
+        return Ok(CheckOptions {
+            flags: ALLOW_USER_INTERACTION,
+            cancel,
+        });
     }
     let cancel = cancel_word(alloc, word)?;
     Ok(CheckOptions { flags: 0, cancel })
@@ -48,7 +49,10 @@ fn two(alloc: Global, word: &[u8], id: &[u8]) -> Result<CheckOptions, LineKind>
         return Err(LineKind::Value);
     }
     let cancel = cancel_word(alloc, id)?;
-    Ok(CheckOptions { flags: ASK, cancel })
+    Ok(CheckOptions {
+        flags: ALLOW_USER_INTERACTION,
+        cancel,
+    })
 }
 
 impl CheckOptions {

@@ -2,14 +2,14 @@
 ghost use Rattle.std.specs.Prelude.{◌≡◌, [], ◌∷◌, map, IfOk};
 ghost use Rattle.scenario_text.specs.Faults.{Gives};
 ghost use Rattle.scenario_text.specs.Runs.{IsRunnable};
-ghost use Rattle.scenario_text.specs.DraftLines.{at_line, action_line, imply_line, owner_line, user_line, group_line, session_line, process_line, gone_process_line, gone_session_line, gone_action_line, reload_line, draft_line};
+ghost use Rattle.scenario_text.specs.DraftLines.{at_line, action_line, imply_line, owner_line, entry_line, admins_line, user_line, group_line, session_line, process_line, gone_process_line, gone_session_line, gone_action_line, reload_line, draft_line};
 
 use crate::fault::LineKind;
 use crate::first_word::DraftWord;
 use crate::step::Step;
 use crate::words::{
     active_word, gids_word, id_word, implicit_word, local_word, number_32, number_64, number_word,
-    session_word, text_word, texts_word,
+    optional_implicit_word, session_word, some_value_word, text_word, texts_word,
 };
 use authority_model::{Process, Session};
 use std::alloc::Global;
@@ -100,6 +100,59 @@ fn owner_words(alloc: Global, args: &[&[u8]]) -> Result<Step, LineKind>
 {
     match args {
         [id, identities] => owner(alloc, id, identities),
+        _ => Err(LineKind::Count),
+    }
+}
+
+fn entry(
+    alloc: Global,
+    identities: &[u8],
+    actions: &[u8],
+    any: &[u8],
+    inactive: &[u8],
+    active: &[u8],
+) -> Result<Step, LineKind>
+    ensures value { Gives result (entry_line (identities.now ∷ actions.now ∷ any.now ∷ inactive.now ∷ active.now ∷ [])) }
+    ensures runs { IfOk result IsRunnable }
+{
+    let identities = texts_word(alloc, identities)?;
+    let actions = texts_word(alloc, actions)?;
+    let any_value = optional_implicit_word(any)?;
+    let inactive_value = optional_implicit_word(inactive)?;
+    let active_value = optional_implicit_word(active)?;
+    let _some = some_value_word(any, inactive, active)?;
+    Ok(Step::Entry {
+        identities,
+        actions,
+        any: any_value,
+        inactive: inactive_value,
+        active: active_value,
+    })
+}
+
+/// `entry IDENTITIES ACTIONS ANY INACTIVE ACTIVE`.
+fn entry_words(alloc: Global, args: &[&[u8]]) -> Result<Step, LineKind>
+    ensures value { Gives result (entry_line (map (λ word. word.now) args.now)) }
+    ensures runs { IfOk result IsRunnable }
+{
+    match args {
+        [identities, actions, any, inactive, active] => {
+            entry(alloc, identities, actions, any, inactive, active)
+        }
+        _ => Err(LineKind::Count),
+    }
+}
+
+/// `admins LIST`.
+fn admins_words(alloc: Global, args: &[&[u8]]) -> Result<Step, LineKind>
+    ensures value { Gives result (admins_line (map (λ word. word.now) args.now)) }
+    ensures runs { IfOk result IsRunnable }
+{
+    match args {
+        [items] => {
+            let items = texts_word(alloc, items)?;
+            Ok(Step::Admins { items })
+        }
         _ => Err(LineKind::Count),
     }
 }
@@ -284,6 +337,8 @@ pub fn draft_step(alloc: Global, word: DraftWord, args: &[&[u8]]) -> Result<Step
         DraftWord::Action => action_words(alloc, args),
         DraftWord::Imply => imply_words(alloc, args),
         DraftWord::Owner => owner_words(alloc, args),
+        DraftWord::Entry => entry_words(alloc, args),
+        DraftWord::Admins => admins_words(alloc, args),
         DraftWord::User => user_words(alloc, args),
         DraftWord::Group => group_words(alloc, args),
         DraftWord::Session => session_words(alloc, args),

@@ -9,6 +9,8 @@ pub enum DraftWord {
     Action,
     Imply,
     Owner,
+    Entry,
+    Admins,
     User,
     Group,
     Session,
@@ -32,6 +34,10 @@ impl DraftWord {
             Some(DraftWord::Imply)
         } else if word == b"owner".as_slice() {
             Some(DraftWord::Owner)
+        } else if word == b"entry".as_slice() {
+            Some(DraftWord::Entry)
+        } else if word == b"admins".as_slice() {
+            Some(DraftWord::Admins)
         } else if word == b"user".as_slice() {
             Some(DraftWord::User)
         } else if word == b"group".as_slice() {
@@ -68,6 +74,7 @@ pub enum CallerWord {
     Return,
     Dismiss,
     Fail,
+    Actions,
     Grants,
     Revoke,
     RevokeId,
@@ -100,6 +107,8 @@ impl CallerWord {
             Some(CallerWord::Dismiss)
         } else if word == b"fail".as_slice() {
             Some(CallerWord::Fail)
+        } else if word == b"actions".as_slice() {
+            Some(CallerWord::Actions)
         } else if word == b"grants".as_slice() {
             Some(CallerWord::Grants)
         } else if word == b"revoke".as_slice() {

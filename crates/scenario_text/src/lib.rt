@@ -20,7 +20,6 @@ mod verdict;
 mod words;
 
 pub use answer::answer_text;
-pub use escape::cookie_words;
 pub use fault::{LineFault, LineKind};
 pub use lines::{MAX_LINE, read_line};
 pub use step::Step;

@@ -14,7 +14,7 @@ use std::test::Fail;
 /// A line, and what it says.
 type Row = (&'static str, &'static str);
 
-const LINES: [Row; 143] = [
+const LINES: [Row; 158] = [
     ("", "blank"),
     ("#", "blank"),
     ("# check 1 1", "blank"),
@@ -56,6 +56,30 @@ const LINES: [Row; 143] = [
     ("owner a ", "7 Value"),
     ("owner a/ x", "7 Value"),
     ("owner a", "7 Count"),
+    (
+        "entry unix-user:a a.*;b yes - -",
+        "entry 1 identities, 2 actions, Some(Yes) None None",
+    ),
+    (
+        "entry a b - auth_self no",
+        "entry 1 identities, 1 actions, None Some(AuthSelf) Some(No)",
+    ),
+    ("entry a b - - -", "7 Value"),
+    ("entry a; b yes - -", "7 Value"),
+    ("entry a  yes - -", "7 Value"),
+    ("entry a b maybe - -", "7 Value"),
+    ("entry a b yes -", "7 Count"),
+    ("entry a b yes - - -", "7 Count"),
+    (
+        "admins unix-group:wheel;unix-user:0",
+        "admins 2 items, unix-group:wheel first",
+    ),
+    ("admins ", "7 Value"),
+    ("admins", "7 Count"),
+    ("actions 1 2 de_DE", "1 calls 2: actions de_DE"),
+    ("actions 1 2 ", "7 Value"),
+    ("actions 1 x ", "7 Number"),
+    ("actions 1 2", "7 Count"),
     ("user 1000 u 5,6", "user 1000 u 2 gids, 5 first"),
     ("user 1000 u 5,5", "user 1000 u 2 gids, 5 first"),
     ("user 0 root -", "user 0 root 0 gids"),
@@ -296,6 +320,10 @@ fn call_shown(alloc: Global, call: &Call) -> Result<String, AllocError> {
             let cancel = plain(cancel);
             format!(in alloc; "cancel {cancel}")
         }
+        Call::EnumerateActions { locale } => {
+            let locale = plain(locale);
+            format!(in alloc; "actions {locale}")
+        }
         Call::EnumerateGrants { subject } => {
             let subject = subject_shown(alloc, subject)?;
             format!(in alloc; "grants {subject}")
@@ -339,6 +367,31 @@ fn user_shown(alloc: Global, uid: u32, name: &Text, gids: &GidList) -> Result<St
     match gids.get(0) {
         Some(first) => format!(in alloc; "user {uid} {name} {count} gids, {first} first"),
         None => format!(in alloc; "user {uid} {name} {count} gids"),
+    }
+}
+
+fn entry_shown(
+    alloc: Global,
+    identities: &TextList,
+    actions: &TextList,
+    any: Option<Implicit>,
+    inactive: Option<Implicit>,
+    active: Option<Implicit>,
+) -> Result<String, AllocError> {
+    let (identities, actions) = (identities.len(), actions.len());
+    format!(in alloc;
+        "entry {identities} identities, {actions} actions, {any:?} {inactive:?} {active:?}"
+    )
+}
+
+fn admins_shown(alloc: Global, items: &TextList) -> Result<String, AllocError> {
+    let count = items.len();
+    match items.get(0) {
+        Some(first) => {
+            let first = plain(first);
+            format!(in alloc; "admins {count} items, {first} first")
+        }
+        None => format!(in alloc; "admins {count} items"),
     }
 }
 
@@ -397,6 +450,14 @@ fn draft_shown(alloc: Global, step: &Step) -> Result<String, AllocError> {
             format!(in alloc; "imply {id} {implied}")
         }
         Step::Owner { id, identities } => owner_shown(alloc, id, identities),
+        Step::Entry {
+            identities,
+            actions,
+            any,
+            inactive,
+            active,
+        } => entry_shown(alloc, identities, actions, *any, *inactive, *active),
+        Step::Admins { items } => admins_shown(alloc, items),
         Step::User { uid, name, gids } => user_shown(alloc, *uid, name, gids),
         Step::Group { gid, name } => {
             let name = plain(name);
@@ -445,18 +506,13 @@ fn text(alloc: Global, bytes: &[u8]) -> Result<Text, Fail> {
 /// A history with one load, which has one action.
 fn one_load(alloc: Global) -> Result<History, Fail> {
     let mut loaded = Loaded::empty(alloc);
-    loaded.policy.actions.try_push(Action {
-        id: ActionId::read(&text(alloc, b"a.yes")?)?,
-        descriptions: List::new(alloc),
-        messages: List::new(alloc),
-        vendor: Text::new(alloc),
-        vendor_url: Text::new(alloc),
-        icon: Text::new(alloc),
-        any: Implicit::Yes,
-        inactive: Implicit::Yes,
-        active: Implicit::Yes,
-        annotations: List::new(alloc),
-    })?;
+    loaded.policy.actions.try_push(Action::plain(
+        alloc,
+        ActionId::read(&text(alloc, b"a.yes")?)?,
+        Implicit::Yes,
+        Implicit::Yes,
+        Implicit::Yes,
+    ))?;
     let mut loads = List::new(alloc);
     loads.try_push(loaded)?;
     Ok(History {

@@ -1,13 +1,13 @@
 // The words of answers: verdicts with their reasons, and errors.
-ghost use Rattle.std.specs.Prelude.{◌≡◌, ◌++◌, codes, string_bytes, IfOk};
+ghost use Rattle.std.specs.Prelude.{◌≡◌, ◌++◌, codes, string_bytes, IfOk, OnOk};
 ghost use Rattle.std.specs.Fmt.{decimal};
 ghost use Rattle.authority_model.specs.Cookies.{grant_text};
 ghost use Rattle.authority_model.specs.Reasons.{category_text, reason_text};
 ghost use Rattle.scenario_text.specs.Escapes.{escaped};
 ghost use Rattle.scenario_text.specs.Answers.{verdict_word, keep_text, made_text, verdict_text, cause_text};
 
-use crate::escape::{escaped, grant_words, pairs_words};
-use authority_model::{ErrorCause, Reason, Verdict};
+use crate::escape::{push_escaped, push_pairs};
+use authority_model::{ErrorCause, Reason, Verdict, push_grant_text};
 use pk_types::{Category, Text};
 use std::alloc::{AllocError, Global};
 
@@ -45,8 +45,9 @@ fn entry_bytes(alloc: Global, place: u32) -> Result<Vec<u8>, AllocError>
 fn grant_bytes(alloc: Global, id: u64) -> Result<Vec<u8>, AllocError>
     ensures text { IfOk result (λ text. text.items ≡ codes "grant:" ++ grant_text id) }
 {
-    let grant = grant_words(alloc, id)?;
-    Ok(format!(in alloc; "grant:{grant}")?.into_bytes())
+    let mut text = String::from_str(alloc, "grant:")?;
+    push_grant_text(&mut text, id)?;
+    Ok(text.into_bytes())
 }
 
 fn reason_bytes(alloc: Global, reason: &Reason) -> Result<Vec<u8>, AllocError>
@@ -67,11 +68,12 @@ fn reason_bytes(alloc: Global, reason: &Reason) -> Result<Vec<u8>, AllocError>
     }
 }
 
-fn reason_words(alloc: Global, reason: &Reason) -> Result<String, AllocError>
-    ensures text { IfOk result (λ text. string_bytes text ≡ escaped (reason_text reason.now)) }
+/// Adds the text of a reason, with each byte escaped that doesn't stand for itself.
+fn push_reason(alloc: Global, text: &mut String, reason: &Reason) -> Result<(), AllocError>
+    ensures ok { OnOk result (string_bytes text.new ≡ string_bytes text.old ++ escaped (reason_text reason.now)) }
 {
-    let text = reason_bytes(alloc, reason)?;
-    escaped(alloc, text.as_slice())
+    let reason = reason_bytes(alloc, reason)?;
+    push_escaped(text, reason.as_slice())
 }
 
 fn verdict_head(verdict: &Verdict) -> &'static str
@@ -92,52 +94,35 @@ fn keep_words(keep: bool) -> &'static str
     if keep { " keep" } else { "" }
 }
 
-fn made_words(alloc: Global, grant: Option<u64>) -> Result<String, AllocError>
-    ensures text { IfOk result (λ text. string_bytes text ≡ made_text grant) }
+fn push_made(text: &mut String, grant: Option<u64>) -> Result<(), AllocError>
+    ensures ok { OnOk result (string_bytes text.new ≡ string_bytes text.old ++ made_text grant) }
 {
     match grant {
-        None => Ok(String::new(alloc)),
+        None => Ok(()),
         Some(id) => {
-            let grant = grant_words(alloc, id)?;
-            format!(in alloc; " grant={grant}")
+            text.push_str(" grant=")?;
+            push_grant_text(text, id)
         }
     }
 }
 
-/// The words of a verdict: what it says, its reason, and what belongs to it.
-pub fn verdict_words(alloc: Global, verdict: &Verdict) -> Result<String, AllocError>
-    ensures text { IfOk result (λ text. string_bytes text ≡ verdict_text verdict.now) }
+/// Adds the words of a verdict: what it says, its reason, and what belongs to it.
+pub fn push_verdict(alloc: Global, text: &mut String, verdict: &Verdict) -> Result<(), AllocError>
+    ensures ok { OnOk result (string_bytes text.new ≡ string_bytes text.old ++ verdict_text verdict.now) }
 {
-    let head = verdict_head(verdict);
-    let reason = reason_words(alloc, &verdict.reason)?;
-    let keep = keep_words(verdict.keep);
-    let grant = made_words(alloc, verdict.grant)?;
-    let pairs = pairs_words(alloc, verdict.pairs.as_slice())?;
-    format!(in alloc; "{head} {reason}{keep}{grant}{pairs}")
+    text.push_str(verdict_head(verdict))?;
+    text.push_str(" ")?;
+    push_reason(alloc, text, &verdict.reason)?;
+    text.push_str(keep_words(verdict.keep))?;
+    push_made(text, verdict.grant)?;
+    push_pairs(text, verdict.pairs.as_slice())
 }
 
-/// The last part of the error's name, and the word of the cause.
-pub fn cause_words(cause: ErrorCause) -> &'static str
-    ensures text { result.now ≡ cause_text cause }
+/// Adds the last part of the error's name, and the word of the cause.
+pub fn push_cause(text: &mut String, cause: ErrorCause) -> Result<(), AllocError>
+    ensures ok { OnOk result (string_bytes text.new ≡ string_bytes text.old ++ cause_text cause) }
 {
-    match cause {
-        ErrorCause::IdInUse => "CancellationIdNotUnique id-in-use",
-        ErrorCause::UnknownAction => "Failed unknown-action",
-        ErrorCause::UnknownSubject => "Failed unknown-subject",
-        ErrorCause::NotTrusted => "NotAuthorized not-trusted",
-        ErrorCause::TooManyPending => "LimitsExceeded too-many-pending",
-        ErrorCause::Cancelled => "Cancelled cancelled",
-        ErrorCause::NoSuchId => "Failed no-such-id",
-        ErrorCause::NotPrivileged => "NotAuthorized not-privileged",
-        ErrorCause::NoSuchCookie => "Failed no-such-cookie",
-        ErrorCause::NotOffered => "Failed not-offered",
-        ErrorCause::AgentExists => "Failed agent-exists",
-        ErrorCause::NoSuchAgent => "Failed no-such-agent",
-        ErrorCause::NotYours => "NotAuthorized not-yours",
-        ErrorCause::NoSuchGrant => "Failed no-such-grant",
-        ErrorCause::UnknownObject => "UnknownObject unknown-object",
-        ErrorCause::UnknownMethod => "UnknownMethod unknown-method",
-        ErrorCause::InvalidArgs => "InvalidArgs invalid-args",
-        ErrorCause::BadAnnounce => "Failed bad-announce",
-    }
+    text.push_str(cause.last_part())?;
+    text.push_str(" ")?;
+    text.push_str(cause.word())
 }

@@ -2,7 +2,7 @@
 ghost use Rattle.std.specs.Prelude.{◌≡◌, ◌≤◌, [], ◌∷◌, map, Ok, IfOk};
 ghost use Rattle.pk_types.specs.Text.{IsText};
 ghost use Rattle.scenario_text.specs.Faults.{Gives};
-ghost use Rattle.scenario_text.specs.Words.{number_in, number_32_in, number_64_in, positive_in, caller_in, serial_in, implicit_in, any_text_in, text_in, id_in, local_in, active_in, session_in, each_in, texts_in, gids_in};
+ghost use Rattle.scenario_text.specs.Words.{number_in, number_32_in, number_64_in, positive_in, caller_in, serial_in, implicit_in, optional_implicit_in, some_value_in, any_text_in, text_in, id_in, local_in, active_in, session_in, each_in, texts_in, gids_in};
 
 use crate::fault::LineKind;
 use authority_model::GidList;
@@ -71,6 +71,29 @@ pub fn implicit_word(word: &[u8]) -> Result<Implicit, LineKind>
     match Implicit::read(word) {
         Some(value) => Ok(value),
         None => Err(LineKind::Value),
+    }
+}
+
+/// An implicit value that is optional: `-` for none.
+pub fn optional_implicit_word(word: &[u8]) -> Result<Option<Implicit>, LineKind>
+    ensures value { Gives result (optional_implicit_in word.now) }
+{
+    if word == b"-".as_slice() {
+        return Ok(None);
+    }
+    let value = implicit_word(word)?;
+    Ok(Some(value))
+}
+
+/// Whether one of three words stands for a value: they may not all be `-`.
+pub fn some_value_word(any: &[u8], inactive: &[u8], active: &[u8]) -> Result<bool, LineKind>
+    ensures value { Gives result (some_value_in any.now inactive.now active.now) }
+{
+    let none = b"-".as_slice();
+    if any == none && inactive == none && active == none {
+        Err(LineKind::Value)
+    } else {
+        Ok(true)
     }
 }
 

@@ -1,14 +1,12 @@
-//! The rows of a world that a subject goes by, and what is known of it by them.
+//! What is known of a subject, or of a key, by the rows of a world.
 //!
 //! Of several rows with one key the first counts. Nothing here takes memory.
 #![tactic(auto)]
 
 mod keys;
-mod rows;
 mod subjects;
 #[cfg(test)]
 mod tests;
 
-pub use keys::{facts_of_key, lists_key};
-pub use rows::{process, session};
+pub use keys::facts_of_key;
 pub use subjects::facts;

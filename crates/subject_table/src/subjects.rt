@@ -4,7 +4,6 @@ ghost use Rattle.std.specs.Option.{option_copied, option_map};
 ghost use Rattle.authority_model.specs.Facts.{category_of, facts_of_process, facts_of_session, facts_seen};
 ghost use Rattle.authority_model.specs.Subjects.{facts_in, facts_of_row};
 
-use crate::rows::{process, session};
 use authority_model::{Facts, KeyRef, Process, Session, World};
 use pk_types::{Category, Subject};
 
@@ -32,7 +31,7 @@ pub fn process_facts<'a>(world: &'a World, row: &'a Process) -> Facts<'a>
 {
     let found: Option<&'a Session> = match &row.session {
         None => None,
-        Some(id) => session(world, id),
+        Some(id) => world.session(id),
     };
     Facts {
         uid: row.uid,
@@ -65,7 +64,7 @@ pub fn session_facts(row: &Session) -> Facts<'_>
 fn pid_facts(world: &World, pid: u32, start: u64) -> Option<Facts<'_>>
     ensures facts { option_map facts_seen result ≡ facts_of_row world.now pid start }
 {
-    match process(world, pid, start) {
+    match world.process(pid, start) {
         Some(row) => Some(process_facts(world, row)),
         None => None,
     }
@@ -84,7 +83,7 @@ pub fn facts<'a>(
 {
     match subject {
         Subject::Process { pid, start } => pid_facts(world, *pid, *start),
-        Subject::Session { id } => match session(world, id) {
+        Subject::Session { id } => match world.session(id) {
             Some(row) => Some(session_facts(row)),
             None => None,
         },

@@ -1,5 +1,5 @@
 // Each public call once, with ample memory, in a world of two sessions and three processes.
-use crate::{facts, facts_of_key, lists_key, process, session};
+use crate::{facts, facts_of_key};
 use authority_model::{Facts, Key, Loaded, Process, Session, World};
 use pk_types::{Category, Subject, Text};
 use std::alloc::Global;
@@ -44,17 +44,6 @@ fn is_known(facts: Option<Facts>, uid: u32, category: Category, in_session: bool
         }
         None => false,
     }
-}
-
-#[test]
-fn rows_are_found(rt: HostRuntime) -> Result<(), Fail> {
-    let alloc = rt.alloc();
-    let world = world(alloc)?;
-    assert!(rt; process(&world, 50, 9).is_some_and(|row| row.uid == 1001));
-    assert!(rt; process(&world, 50, 8).is_none());
-    assert!(rt; session(&world, &text(alloc, "s2")?).is_some_and(|row| row.uid == 1001));
-    assert!(rt; session(&world, &text(alloc, "s9")?).is_none());
-    Ok(())
 }
 
 #[test]
@@ -123,8 +112,7 @@ fn keys_are_known_by_all_their_parts(rt: HostRuntime) -> Result<(), Fail> {
         ),
     ];
     for (key, listed) in &rows {
-        assert!(rt; lists_key(&world, key) == *listed);
-        assert!(rt; facts_of_key(&world, key).is_some() == *listed);
+        assert!(rt; facts_of_key(&world, key.borrowed()).is_some() == *listed);
     }
     Ok(())
 }

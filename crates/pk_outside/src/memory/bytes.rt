@@ -1,5 +1,5 @@
 // Sources and sinks over bytes in memory, whose calls can be made to fail.
-ghost use Rattle.std.specs.Prelude.{◌≡◌, ◌||◌, ◌==◌, ◌+◌, ◌-◌, ◌^◌, ◌<◌, ◌≤◌, [], ◌++◌, ℕ, Some, IsTrue, IfOk, MatchResult, is_err, nat_le, length, take, drop, vec_len, vec_capacity};
+ghost use Rattle.std.specs.Prelude.{◌≡◌, ◌||◌, ◌==◌, ◌+◌, ◌-◌, ◌^◌, ◌<◌, ◌≤◌, [], ◌++◌, ℕ, Some, IsTrue, IfOk, OnOk, MatchResult, is_err, nat_le, min, length, take, drop, vec_len, vec_capacity};
 ghost use Rattle.std.specs.Io.{ReadsAtMost};
 ghost use Rattle.pk_outside.specs.Causes.{HasCause};
 ghost use Rattle.pk_outside.specs.Memory.{fails_next, one_call};
@@ -10,7 +10,8 @@ use crate::{Failed, Sink, Source};
 use pk_types::NoMemory;
 use std::alloc::Global;
 
-/// A source of bytes in memory, which gives them in pieces. A call that fails leaves them.
+/// A source of bytes in memory, which gives them in pieces: in a call as many as the piece, the
+/// buffer and the bytes left allow. A call that fails leaves them.
 #[derive(Drop)]
 pub struct ByteSource {
     bytes: Vec<u8>,
@@ -23,7 +24,7 @@ pub struct ByteSource {
 }
 
 impl ByteSource {
-    ghost use Rattle.pk_outside.specs.Held.{source_left, source_bytes, source_calls};
+    ghost use Rattle.pk_outside.specs.Held.{source_left, source_bytes, source_piece, source_calls};
 
     /// A source of these bytes, at most `piece` of them in a call. The calls with the numbers in
     /// `failing` fail; the first call has the number 1.
@@ -32,6 +33,7 @@ impl ByteSource {
         requires size { vec_len bytes ≤ 2 ^ 62 }
         ensures left { source_left result ≡ bytes.items }
         ensures bytes { source_bytes result ≡ bytes.items }
+        ensures piece { source_piece result ≡ piece }
         ensures calls { source_calls result ≡ record { made = 0; faults = 0; failing = failing.items } }
     {
         ByteSource {
@@ -57,6 +59,7 @@ pub(crate) fn copy_from(bytes: &[u8], at: usize, piece: usize, buffer: &mut [u8]
     ensures bytes { drop at bytes.now ≡ take result buffer.new ++ drop (at + result) bytes.now }
     ensures bound { result ≤ length buffer.new }
     ensures within { at + result ≤ length bytes.now }
+    ensures most { result ≡ min (min (length buffer.new) piece) (length bytes.now - at) }
     ensures end { result ≡ 0 → 0 < piece → 0 < length buffer.old → at ≡ length bytes.now }
 {
     let (_, rest) = bytes.split_at(at);
@@ -71,7 +74,7 @@ impl Source for ByteSource {
     ghost use Rattle.std.proofs.Common.{rules};
     ghost use Rattle.pk_outside.specs.Memory.{used_up};
     ghost use Rattle.pk_outside.specs.Links.{Origin};
-    ghost use Rattle.pk_outside.specs.Held.{source_left, source_calls, source_budget, source_ended, source_bytes};
+    ghost use Rattle.pk_outside.specs.Held.{source_left, source_calls, source_budget, source_ended, source_bytes, source_piece};
 
     ghost left = { λ s. Some (drop s.at s.bytes.items) };
 
@@ -94,8 +97,11 @@ impl Source for ByteSource {
         ensures end { IfOk result (λ n. n ≡ 0 → IsTrue (source_ended self.new)) }
         ensures same { source_bytes self.new ≡ source_bytes self.old }
         ensures cause { HasCause (source_calls self.old).faults (source_calls self.new).faults result }
+        ensures quiet { OnOk result ((source_calls self.new).faults ≡ (source_calls self.old).faults) }
         ensures fewer { MatchResult result (λ n. source_budget self.new + n ≤ source_budget self.old)
             (λ _. source_budget self.new ≤ source_budget self.old) }
+        ensures most { IfOk result (λ n. n ≡ min (min (length buffer.new) (source_piece self.old)) (source_budget self.old)) }
+        ensures piece { source_piece self.new ≡ source_piece self.old }
         ensures listed { is_err result ≡ fails_next (source_calls self.old) }
         ensures counted { source_calls self.new ≡ one_call (source_calls self.old) (is_err result) }
     {
@@ -110,8 +116,9 @@ impl Source for ByteSource {
     }
 }
 
-/// A sink in memory with a stated room, which takes bytes in pieces. A call that fails, and one
-/// that finds the room full, leaves what it holds.
+/// A sink in memory with a stated room, which takes bytes in pieces: in a call as many as the piece
+/// and the room left allow. A call that fails, and one that finds the room full, leaves what it
+/// holds.
 #[derive(Drop)]
 pub struct ByteSink {
     bytes: Vec<u8>,
@@ -123,7 +130,7 @@ pub struct ByteSink {
 }
 
 impl ByteSink {
-    ghost use Rattle.pk_outside.specs.Held.{sink_held, sink_calls, sink_room};
+    ghost use Rattle.pk_outside.specs.Held.{sink_held, sink_calls, sink_piece, sink_room};
 
     /// An empty sink with room for so many bytes, which takes at most `piece` of them in a call.
     /// The calls with the numbers in `failing` fail; the first call has the number 1.
@@ -136,6 +143,7 @@ impl ByteSink {
         requires some { 0 < piece }
         ensures empty { IfOk result (λ sink. sink_held sink ≡ []) }
         ensures room { IfOk result (λ sink. sink_room sink ≡ room) }
+        ensures piece { IfOk result (λ sink. sink_piece sink ≡ piece) }
         ensures calls { IfOk result (λ sink. sink_calls sink ≡ record { made = 0; faults = 0; failing = failing.items }) }
     {
         let bytes = Vec::with_capacity(alloc, room)?;
@@ -164,7 +172,7 @@ impl ByteSink {
 
 impl Sink for ByteSink {
     ghost use Rattle.std.specs.Prelude.{Some};
-    ghost use Rattle.pk_outside.specs.Held.{sink_held, sink_calls, sink_room};
+    ghost use Rattle.pk_outside.specs.Held.{sink_held, sink_calls, sink_piece, sink_room};
 
     ghost held = { λ s. Some s.bytes.items };
 
@@ -175,6 +183,10 @@ impl Sink for ByteSink {
         ensures bound { IfOk result (λ n. (0 < n) × (n ≤ length bytes.now)) }
         ensures bytes { WriteGot (Some (sink_held self.old)) (Some (sink_held self.new)) result bytes.now }
         ensures cause { HasCause (sink_calls self.old).faults (sink_calls self.new).faults result }
+        ensures quiet { OnOk result ((sink_calls self.new).faults ≡ (sink_calls self.old).faults) }
+        ensures most { IfOk result (λ n. n ≡ min (min (length bytes.now) (sink_piece self.old)) (sink_room self.old - length (sink_held self.old))) }
+        ensures piece { sink_piece self.new ≡ sink_piece self.old }
+        ensures room { sink_room self.new ≡ sink_room self.old }
         ensures refused { is_err result ≡ (fails_next (sink_calls self.old) || nat_le (sink_room self.old) (length (sink_held self.old))) }
         ensures counted { sink_calls self.new ≡ one_call (sink_calls self.old) (is_err result) }
     {

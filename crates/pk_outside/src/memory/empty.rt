@@ -29,6 +29,10 @@ impl Tree for ListTree {
 
     ghost faults = { λ _. 0 };
 
+    fn faults(&self) -> u64 {
+        0
+    }
+
     fn names(&mut self, _path: &Text) -> Result<Names, TreeRefused> {
         Ok(Names::Absent)
     }

@@ -1,10 +1,13 @@
 // A source and a sink in memory that never fail.
-ghost use Rattle.std.specs.Prelude.{◌≡◌, ◌^◌, ◌<◌, ◌≤◌, length, vec_len};
+ghost use Rattle.std.specs.Prelude.{◌≡◌, ◌+◌, ◌^◌, ◌<◌, ◌≤◌, Some, IsTrue, IfOk, MatchResult, length, min, vec_len};
+ghost use Rattle.std.specs.Io.{ReadsAtMost};
+ghost use Rattle.pk_outside.specs.Streams.{ReadGave};
 
 use crate::memory::bytes::copy_from;
 use crate::{Failed, Sink, Source};
 
-/// A source of bytes in memory that never fails: its count of faults is always 0.
+/// A source of bytes in memory that never fails: its count of faults is always 0. It gives in a
+/// call as many bytes as the piece, the buffer and the bytes left allow.
 #[derive(Drop)]
 pub struct SureSource {
     bytes: Vec<u8>,
@@ -16,13 +19,15 @@ pub struct SureSource {
 }
 
 impl SureSource {
-    ghost use Rattle.pk_outside.specs.Held.{sure_left};
+    ghost use Rattle.pk_outside.specs.Held.{sure_left, sure_bytes, sure_piece};
 
     /// A source of these bytes, at most `piece` of them in a call.
     pub fn new(bytes: Vec<u8>, piece: usize) -> Self
         requires some { 0 < piece }
         requires size { vec_len bytes ≤ 2 ^ 62 }
         ensures left { sure_left result ≡ bytes.items }
+        ensures bytes { sure_bytes result ≡ bytes.items }
+        ensures piece { sure_piece result ≡ piece }
     {
         SureSource {
             bytes,
@@ -35,6 +40,7 @@ impl SureSource {
 impl Source for SureSource {
     ghost use Rattle.std.specs.Prelude.{◌-◌, [], Some, length, drop, nat_eq};
     ghost use Rattle.std.proofs.Common.{rules};
+    ghost use Rattle.pk_outside.specs.Held.{sure_left, sure_bytes, sure_piece, sure_budget, sure_ended};
     ghost use Rattle.pk_outside.specs.Memory.{used_up};
 
     ghost left = { λ s. Some (drop s.at s.bytes.items) };
@@ -51,7 +57,17 @@ impl Source for SureSource {
 
     ghost ended_is_used_up = { λ s at_end. used_up s.at s.bytes.items at_end };
 
-    fn read(&mut self, buffer: &mut [u8]) -> Result<usize, Failed> {
+    fn read(&mut self, buffer: &mut [u8]) -> Result<usize, Failed>
+        requires { 0 < length buffer.old }
+        ensures bound { ReadsAtMost result buffer.new }
+        ensures bytes { ReadGave (Some (sure_left self.old)) (Some (sure_left self.new)) result buffer.new }
+        ensures end { IfOk result (λ n. n ≡ 0 → IsTrue (sure_ended self.new)) }
+        ensures same { sure_bytes self.new ≡ sure_bytes self.old }
+        ensures fewer { MatchResult result (λ n. sure_budget self.new + n ≤ sure_budget self.old)
+            (λ _. sure_budget self.new ≤ sure_budget self.old) }
+        ensures most { result ≡ Ok (min (min (length buffer.new) (sure_piece self.old)) (sure_budget self.old)) }
+        ensures piece { sure_piece self.new ≡ sure_piece self.old }
+    {
         let n = copy_from(&self.bytes, self.at, self.piece, buffer);
         self.at += n;
         Ok(n)

@@ -1,6 +1,6 @@
 use Rattle.std.proofs.Common.{◌≡◌, length}
 use Rattle.std.specs.Str.{chars}
-use Rattle.pk_types.specs.Glob.{glob, some_suffix}
+use Rattle.glob_match.specs.Glob.{glob, some_suffix}
 use Rattle.glob_match.proofs.walk.first_fit.Given as goal
 
 abbrev pub invariant-loop-found : goal.invariant-loop-found

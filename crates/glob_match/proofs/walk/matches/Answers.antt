@@ -1,7 +1,7 @@
 -- What was found at the end decides.
 use Rattle.std.proofs.Common.{◌≡◌, sym, true, false}
 use Rattle.std.specs.Str.{chars}
-use Rattle.pk_types.specs.Glob.{glob}
+use Rattle.glob_match.specs.Glob.{glob}
 use Rattle.glob_match.proofs.Globs.{says_glob}
 use Rattle.glob_match.proofs.Stars.{whole_leads, whole_only}
 use Rattle.glob_match.proofs.walk.matches.Goals as goal

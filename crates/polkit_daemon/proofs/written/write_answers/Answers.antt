@@ -1,6 +1,7 @@
 -- One more answer, or a front of it.
-use Rattle.std.proofs.Common.{arith, ◌∷◌, [], ◌+◌, take, drop}
+use Rattle.std.proofs.Common.{◌∷◌, [], ◌∙◌, ◌+◌, take, drop}
 use Rattle.polkit_daemon.specs.Counted.{counted}
+use Rattle.polkit_daemon.proofs.Faults.{answers_refused}
 use Rattle.polkit_daemon.proofs.Texts.{on_err, around, up_to, wrote_more, wrote_front}
 use Rattle.polkit_daemon.proofs.written.write_answers.Goals as goal
 
@@ -17,4 +18,8 @@ loop-answer-preserved g c =
     (take c.loop-answer.answer-index c.args.answers.now) (c.answer-item.result ∷ []) (take (c.loop-answer.answer-index + 1) c.args.answers.now)
     (up_to c.args.answers.now c.loop-answer.answer-index c.answer-item.result c.loop-answer-test.true c.answer-item.is)
     c.loop-answer.invariant.counted c.loop-answer.invariant.written c.in_ok-write_answer.ensures.counted c.in_ok-write_answer.ensures.ok in
-    record { written = p.0; counted = p.1; later = omega (arith, c.loop-answer.invariant.later, c.write_answer.ensures.later) }
+    record { written = p.0; counted = p.1; quiet = c.in_ok-write_answer.ensures.faults ∙ c.loop-answer.invariant.quiet }
+
+pub returns-in_err-write_answer-clause-faults : goal.returns-in_err-write_answer-clause-faults
+returns-in_err-write_answer-clause-faults g c =
+    answers_refused g.O.Sink.held g.O.Sink.faults _ c.loop-answer.output _ c.from_residual.result _ c.from_residual.ensures.1 c.loop-answer.invariant.quiet c.in_err-write_answer.ensures.faults

@@ -1,5 +1,5 @@
--- The answers so far were written and counted.
-use Rattle.std.proofs.Common.{◌≡◌, ◌≤◌, take}
+-- The answers so far were written and counted, and no write failed.
+use Rattle.std.proofs.Common.{◌≡◌, take}
 use Rattle.pk_outside.specs.Streams.{Got}
 use Rattle.scenario_run.specs.Text.{outputs_text, counts_after}
 use Rattle.polkit_daemon.specs.Counted.{counted}
@@ -9,5 +9,5 @@ abbrev pub invariant-loop-answer : goal.invariant-loop-answer
 invariant-loop-answer g l = record {
   written : Got (g.O.Sink.held l.fn.output) (g.O.Sink.held l.output) (outputs_text l.history.loads (counted l.fn.counts) (take l.answer-index l.answers));
   counted : counted l.counts ≡ counts_after (counted l.fn.counts) (take l.answer-index l.answers);
-  later : g.O.Sink.faults l.fn.output ≤ g.O.Sink.faults l.output;
+  quiet : g.O.Sink.faults l.output ≡ g.O.Sink.faults l.fn.output;
 }

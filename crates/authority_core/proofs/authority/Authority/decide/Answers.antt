@@ -1,7 +1,7 @@
 use Rattle.std.proofs.Common.{◌≡◌, ◌≤◌, ◌∙◌, ap, sym, subst, max, List, Option, Some, arith}
 use Rattle.std.specs.Prelude.{ℕ, option_and_then}
 use Rattle.std.specs.Option.{option_map}
-use Rattle.authority_model.specs.declared.journal.History.{History}
+use Rattle.authority_core.specs.Journal.{Journal}
 use Rattle.authority_model.specs.declared.journal.Item.{Item}
 use Rattle.authority_model.specs.declared.load.Loaded.{Loaded}
 use Rattle.authority_model.specs.declared.verdict.GrantRow.{GrantRow}
@@ -11,7 +11,7 @@ use Rattle.authority_model.specs.Facts.{Facts, facts_seen}
 use Rattle.authority_model.specs.Grants.{kept}
 use Rattle.authority_model.specs.Items.{items_of, loaded_of, policy_of}
 use Rattle.authority_model.specs.Legal.{last_moment}
-use Rattle.check_decision.specs.Ruling.{ruling_seen}
+use Rattle.check_decision.specs.DecisionRef.{decision_seen}
 use Rattle.journal_state.proofs.Current.{current_decision_for}
 use Rattle.authority_core.proofs.authority.Authority.decide.Goals as goal
 
@@ -24,10 +24,10 @@ returns-in-Some c = record {
       let later : last_moment past ≤ latest = omega (arith, c.self.invariant.moment_is, c.max-latest.ensures) in
       let in_force : c.load_in_force-in_force.result.now ≡ loaded_of past = c.load_in_force-in_force.ensures.in_force c.self.inside.history (sym c.as_slice.ensures.items) c.self.invariant.legal.loads in
       let tell : Option Decision → Option Told = option_map (told_decision (policy_of past)) in
-      let told : Some c.told.result ≡ tell (Some (ruling_seen c.in-Some.ruling)) = ap (λ (d : Told). Some d) (c.told.ensures.told ∙ ap (λ (l : Loaded). told_decision l.policy (ruling_seen c.in-Some.ruling)) in_force) in
-      subst (λ (h : History). Some c.told.result ≡ option_map (told_decision (policy_of (items_of h))) (decision (items_of h) (kept (items_of h)) (max (last_moment (items_of h)) c.args.moment) c.args.subject.now c.args.id.now)) c.self.view_is
+      let told : Some c.told.result ≡ tell (Some (decision_seen c.in-Some.decision)) = ap (λ (d : Told). Some d) (c.told.ensures.told ∙ ap (λ (l : Loaded). told_decision l.policy (decision_seen c.in-Some.decision)) in_force) in
+      subst (λ (j : Journal). Some c.told.result ≡ option_map (told_decision (policy_of (items_of j.history))) (decision (items_of j.history) (kept (items_of j.history)) (max (last_moment (items_of j.history)) c.args.moment) c.args.subject.now c.args.id.now)) c.self.view_is
       (told
-      ∙ ap tell (c.in-Some.ensures.ruling past in_force
+      ∙ ap tell (c.in-Some.ensures.decision past in_force
       ∙ ap (λ (rows : List GrantRow). decision_for past rows f latest c.args.id.now) (c.as_slice-grants.ensures.rows ∙ c.self.invariant.state_is.grants)
       ∙ current_decision_for past latest later f c.args.id.now
       ∙ ap (λ (o : Option Facts). option_and_then (λ g. decision_for past (kept past) g latest c.args.id.now) o) (c.in_ok-facts.ensures.facts past c.self.invariant.state_is.connections (ap (λ (l : Loaded). l.world) in_force))

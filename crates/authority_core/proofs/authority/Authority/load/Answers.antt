@@ -1,6 +1,6 @@
 use Rattle.std.proofs.Common.{◌≡◌, ◌≤◌, ◌++◌, ◌∷◌, [], subst, refl, List, Some, arith}
 use Rattle.authority_model.specs.declared.event.Event.TheVariants.{Load}
-use Rattle.authority_model.specs.declared.journal.History.{History}
+use Rattle.authority_core.specs.Journal.{Journal}
 use Rattle.authority_model.specs.declared.journal.Item.{Item}
 use Rattle.authority_model.specs.Answers.{answers}
 use Rattle.authority_model.specs.Given.{Grows, load_given, next}
@@ -27,9 +27,9 @@ pub invariant_of-self : goal.invariant_of-self
 invariant_of-self c = load_sound c.self.inside.history c.self.inside.moment c.self.inside.empty c.self.inside.state c.self.invariant c.args.caller c.args.moment c.max-greatest.result c.in-Some.number c.args.loaded c.in-Ok.outputs c.enter_load.new.history c.enter_load.new.state c.requires.moment c.max-greatest.ensures c.in-Some.ensures.number c.in-Some.ensures.fits c.in-Some.ensures.actions c.in-Some.ensures.rules (answered c) c.in-Ok-enter_load.ensures.entries c.in-Ok-enter_load.ensures.loads (stands c)
 
 pub returns-in-Ok-enter_load-clause-grows : goal.returns-in-Ok-enter_load-clause-grows
-returns-in-Ok-enter_load-clause-grows c = subst (λ (h : History). Grows h c.enter_load.new.history (load_given c.args.caller c.args.moment c.args.loaded)) c.self.view_is
+returns-in-Ok-enter_load-clause-grows c = subst (λ (j : Journal). Grows j.history c.enter_load.new.history (load_given c.args.caller c.args.moment c.args.loaded)) c.self.view_is
     (load_grows c.self.inside.history c.self.inside.moment c.self.inside.empty c.self.inside.state c.self.invariant c.args.caller c.args.moment c.max-greatest.result c.in-Some.number c.args.loaded c.in-Ok.outputs c.enter_load.new.history c.enter_load.new.state c.requires.moment c.max-greatest.ensures c.in-Some.ensures.number c.in-Some.ensures.fits c.in-Some.ensures.actions c.in-Some.ensures.rules (answered c) c.in-Ok-enter_load.ensures.entries c.in-Ok-enter_load.ensures.loads (stands c))
 
 pub returns-in-Ok-enter_load-clause-entry : goal.returns-in-Ok-enter_load-clause-entry
-returns-in-Ok-enter_load-clause-entry c = subst (λ (h : History). c.enter_load.new.history.entries ≡ h.entries ++ (next (items_of h) (load_given c.args.caller c.args.moment c.args.loaded)).entry ∷ []) c.self.view_is
+returns-in-Ok-enter_load-clause-entry c = subst (λ (j : Journal). c.enter_load.new.history.entries ≡ j.history.entries ++ (next (items_of j.history) (load_given c.args.caller c.args.moment c.args.loaded)).entry ∷ []) c.self.view_is
     (load_entry c.self.inside.history c.self.inside.moment c.self.inside.empty c.self.inside.state c.self.invariant c.args.caller c.args.moment c.max-greatest.result c.in-Some.number c.args.loaded c.in-Ok.outputs c.enter_load.new.history c.enter_load.new.state c.requires.moment c.max-greatest.ensures c.in-Some.ensures.number c.in-Some.ensures.fits c.in-Some.ensures.actions c.in-Some.ensures.rules (answered c) c.in-Ok-enter_load.ensures.entries c.in-Ok-enter_load.ensures.loads (stands c))

@@ -1,5 +1,5 @@
 use Rattle.std.proofs.Common.{◌≡◌, ◌≤◌, ◌∙◌, sym, subst, ◌∷◌, List, None, arith}
-use Rattle.authority_model.specs.declared.journal.History.{History}
+use Rattle.authority_core.specs.Journal.{Journal}
 use Rattle.authority_model.specs.declared.journal.Item.{Item}
 use Rattle.authority_model.specs.Answers.{answers}
 use Rattle.authority_model.specs.Given.{Grows, event_given}
@@ -32,4 +32,4 @@ invariant_of-self c = event_sound c.self.inside.history c.self.inside.moment c.s
 pub returns-in-Ok-enter-clause-grows : goal.returns-in-Ok-enter-clause-grows
 returns-in-Ok-enter-clause-grows c =
     let grown = event_grows c.self.inside.history c.self.inside.moment c.self.inside.empty c.self.inside.state c.self.invariant c.args.caller c.args.moment c.max-moment.result c.args.salt c.args.event c.in-Ok.outputs c.enter.new.entries c.enter.new.state c.requires.event c.requires.moment c.max-moment.ensures (answered c) c.in-Ok-enter.ensures.ok (stands c) in
-    subst (λ (h : History). Grows h (record { entries = c.enter.new.entries; loads = c.self.inside.history.loads }) (event_given c.args.caller c.args.moment c.args.salt c.args.event)) c.self.view_is grown
+    subst (λ (j : Journal). Grows j.history (record { entries = c.enter.new.entries; loads = c.self.inside.history.loads }) (event_given c.args.caller c.args.moment c.args.salt c.args.event)) c.self.view_is grown

@@ -8,12 +8,12 @@ use Rattle.generated_run.proofs.run.Run.enter.Goals as goal
 pub returns-clause-ok : goal.returns-clause-ok
 returns-clause-ok c = λ past has.
     let g = event_given c.args.caller c.args.moment 0 c.args.event in
-    let newest = newest_is past c.args.self.now.authority c.step.new.self g c.in-Some.entry.now c.in-Ok.place has.items c.in-Ok.ensures.entry c.in-Ok.ensures.place c.in-Some.ensures.entry in
+    let newest = newest_is past c.args.self.now.authority.history c.step.new.self.history g c.in-Some.entry.now c.in-Ok.place has.items c.in-Ok.ensures.entry c.in-Ok.ensures.place c.in-Some.ensures.entry in
     done_then _ _ c.add.result (has_next past c.args.self.now _ g has c.in-Ok.ensures.grows) (c.add.ensures.added past (next past g) has.tally newest)
 
 pub returns-clause-asked : goal.returns-clause-asked
 unfolding entered
 returns-clause-asked c = λ past has.
     let g = event_given c.args.caller c.args.moment 0 c.args.event in
-    let newest = newest_is past c.args.self.now.authority c.step.new.self g c.in-Some.entry.now c.in-Ok.place has.items c.in-Ok.ensures.entry c.in-Ok.ensures.place c.in-Some.ensures.entry in
+    let newest = newest_is past c.args.self.now.authority.history c.step.new.self.history g c.in-Some.entry.now c.in-Ok.place has.items c.in-Ok.ensures.entry c.in-Ok.ensures.place c.in-Some.ensures.entry in
     c.add.ensures.asked past (next past g) has.tally newest

@@ -7,6 +7,6 @@ pub returns : goal.returns
 returns c = record {
   ok = λ past has.
       let g = load_given 0 0 c.args.loaded in
-      let newest = newest_is past c.args.self.now.authority c.load.new.self g c.in-Some.entry.now c.in-Ok.place has.items c.in-Ok.ensures.entry c.in-Ok.ensures.place c.in-Some.ensures.entry in
+      let newest = newest_is past c.args.self.now.authority.history c.load.new.self.history g c.in-Some.entry.now c.in-Ok.place has.items c.in-Ok.ensures.entry c.in-Ok.ensures.place c.in-Some.ensures.entry in
       has_next past c.args.self.now _ g has c.in-Ok.ensures.grows (c.in_ok-add.ensures.added past (next past g) has.tally newest);
 }

@@ -13,6 +13,6 @@ pub returns-clause-summary : goal.returns-clause-summary
 returns-clause-summary c = λ past has.
     let is = c.summary.ensures.summary ∙ has.tally.summary in
     ap (with_entries c.summary.result) (
-    c.len.ensures.length ∙ ap (λ (h : History). length h.entries) c.history.ensures.same ∙ sym (length_items c.args.self.now.authority)
+    c.len.ensures.length ∙ ap (λ (h : History). length h.entries) c.history.ensures.same ∙ sym (length_items c.args.self.now.authority.history)
     ∙ ap length has.items ∙ ap (λ (s : Summary). s.entries) (sym is)
     ) ∙ is

@@ -6,5 +6,5 @@ use Rattle.journal_state.proofs.Stepping.{tells_put}
 use Rattle.journal_state.proofs.connections.Connections.after.Goals as goal
 
 pub returns-in_ok-insert-clause-ok : goal.returns-in_ok-insert-clause-ok
-returns-in_ok-insert-clause-ok c = λ past loaded told world. tells_put c.args.self.now c.insert.new.self.entries past (record { entry = c.args.entry.now; loaded = loaded }) c.in-Some.row told (cc)
-    (λ q. c.in_ok-insert.ensures.updates.0 q ∙ ap (λ rows. cond (is_at (nat_cmp c.args.entry.now.caller) q) (Some c.in-Some.row) (row_of rows q)) c.self.view_is)
+returns-in_ok-insert-clause-ok c = λ past loaded told world. tells_put c.args.self.now c.insert.new.self.entries past (record { entry = c.args.entry.now; loaded = loaded }) c.in-Some.next told (cc)
+    (λ q. c.in_ok-insert.ensures.updates.0 q ∙ ap (λ rows. cond (is_at (nat_cmp c.args.entry.now.caller) q) (Some c.in-Some.next) (row_of rows q)) c.self.view_is)

@@ -1,6 +1,7 @@
-use Rattle.std.proofs.Common.{◌≡◌, ◌++◌, [], ◌∙◌, ap, arith, append-nil}
+use Rattle.std.proofs.Common.{◌≡◌, ◌++◌, [], ◌∙◌, ap, arith, append-nil, refl, subst, List, ℕ}
 use Rattle.std.proofs.lemmas.List.{nil_from_length}
-use Rattle.pk_outside.proofs.Written.{Gave-none, Gave-more}
+use Rattle.pk_outside.specs.Streams.{Gave}
+use Rattle.pk_outside.proofs.Written.{Gave-none, Gave-more, read_failed}
 use Rattle.byte_pieces.proofs.Cuts.{some_bytes}
 use Rattle.line_reader.proofs.Takings.{longer_whole, longer_all, longer_lacks, read_on}
 use Rattle.line_reader.proofs.reader.LineReader.next_line.Goals as goal
@@ -10,7 +11,7 @@ pieces-init g c = record {
   taken = ([], Gave-none _, rw c.clear.ensures.items (append-nil c.args.self.now));
   lacks = rw c.clear.ensures.items tt;
   short = omega (arith, c.clear.ensures.len);
-  later = omega arith;
+  quiet = refl;
   fewer = omega arith;
 }
 
@@ -43,6 +44,13 @@ returns-in-Err-refill-clause-takes g c =
       (record { whole = read_on _ read _ _ all; lacks = longer_lacks _ _ _ _ so_far.lacks piece.0; short = piece.1 }, c.in-Err-refill.ensures.err),
     )
 
+pub returns-in-Err-refill-clause-faults : goal.returns-in-Err-refill-clause-faults
+returns-in-Err-refill-clause-faults g c =
+    let before = g.I.Source.left c.pieces.input in
+    let now = g.I.Source.left c.refill.new.input in
+    read_failed g.I.Source.left g.I.Source.faults _ c.pieces.input _ c.pieces.invariant.quiet c.in-Err-refill.ensures.cause.failed
+    (subst (λ (bytes : List ℕ). Gave before now bytes) c.in-Err-refill.ensures.err c.in-Err-refill.ensures.bytes)
+
 pub returns-else-is_empty-clause-takes : goal.returns-else-is_empty-clause-takes
 returns-else-is_empty-clause-takes g c =
     let so_far = c.pieces.invariant in
@@ -72,6 +80,6 @@ pieces-preserved g c =
       taken = (read ++ c.refill.new.self, Gave-more _ _ _ read _ so_far.taken.1 c.refill.ensures.bytes, read_on _ read _ _ all);
       lacks = longer_lacks _ _ _ _ so_far.lacks piece.0;
       short = piece.1;
-      later = omega (arith, so_far.later, c.refill.ensures.cause.later);
+      quiet = c.in-Ok.ensures.quiet ∙ so_far.quiet;
       fewer = omega (arith, c.in-Ok.ensures.fewer, c.in-Ok.ensures.count, so_far.fewer);
     }

@@ -1,4 +1,4 @@
--- The lines so far ran without a fault, and their text was written.
+-- The lines so far ran without a fault, and their text was written; no read and no write failed.
 use Rattle.std.proofs.Common.{◌≡◌, ◌≤◌, ◌+◌, ◌^◌, length}
 use Rattle.authority_model.specs.Items.{sent}
 use Rattle.polkit_daemon.specs.Counted.{counted}
@@ -7,10 +7,10 @@ use Rattle.polkit_daemon.proofs.replaying.Playback.run.Given as goal
 
 abbrev pub invariant-lines : goal.invariant-lines
 invariant-lines g l = record {
-  so_far : SoFar (g.I.Source.left l.fn.input) (g.I.Source.left l.input) l.self.reader l.self.stage l.self.number (g.O.Sink.held l.fn.output) (g.O.Sink.held l.output);
-  counted : counted l.self.counts ≡ sent l.self.stage.past;
-  read : g.I.Source.faults l.fn.input ≤ g.I.Source.faults l.input;
-  wrote : g.O.Sink.faults l.fn.output ≤ g.O.Sink.faults l.output;
+  so_far : SoFar (g.I.Source.left l.fn.input) (g.I.Source.left l.input) l.self.reader l.self.scenario l.self.number (g.O.Sink.held l.fn.output) (g.O.Sink.held l.output);
+  counted : counted l.self.counts ≡ sent l.self.scenario.past;
+  read : g.I.Source.faults l.input ≡ g.I.Source.faults l.fn.input;
+  wrote : g.O.Sink.faults l.output ≡ g.O.Sink.faults l.fn.output;
   count : l.self.number + (g.I.Source.budget l.input + length l.self.reader) ≤ 2 ^ 62 + 1;
 }
 

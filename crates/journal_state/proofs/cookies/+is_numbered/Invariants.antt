@@ -1,4 +1,0 @@
-use Rattle.journal_state.proofs.cookies.+is_numbered.Given as goal
-
-abbrev pub decreases-is_numbered : goal.decreases-is_numbered
-decreases-is_numbered l = l.digits

@@ -1,0 +1,64 @@
+-- How the counts of faults stand behind one call after another.
+use Rattle.std.proofs.Common.{◌≡◌, ℕ, List, Option, Result, Ok, Err, refl, sym, subst, ◌∙◌}
+use Rattle.std.specs.Result.{IsErrAnd}
+use Rattle.pk_outside.specs.Causes.{FailsLast}
+use Rattle.scenario_text.specs.declared.fault.LineKind.{LineKind}
+use Rattle.scenario_text.specs.declared.fault.LineKind.TheVariants as kind
+use Rattle.polkit_daemon.specs.declared.replaying.Stopped.{Stopped}
+use Rattle.polkit_daemon.specs.declared.replaying.Stopped.TheVariants as stopped
+use Rattle.polkit_daemon.specs.declared.status.Status.{Status}
+use Rattle.polkit_daemon.specs.declared.status.Status.TheVariants as status
+use Rattle.polkit_daemon.specs.declared.written.WriteRefused.{WriteRefused}
+use Rattle.polkit_daemon.specs.declared.written.WriteRefused.TheVariants as refused
+use Rattle.polkit_daemon.specs.Faults.{InputFaults, OutputFaults, LineWrites, AnswerWrites}
+use Rattle.polkit_daemon.specs.Generate.{Generates}
+use Rattle.polkit_daemon.specs.Lines.{stop_of, status_of}
+
+-- the last call failed, and none before it, from an earlier moment on that had the same count
+pub fails_later : {S : Type 0} (content : S → Option (List ℕ)) (faults : S → ℕ) (first before now : S) → faults before ≡ faults first
+    → FailsLast content faults before now → FailsLast content faults first now
+fails_later content faults first before now quiet failed = record {
+  moment = failed.moment;
+  quiet = failed.quiet ∙ quiet;
+  counted = failed.counted;
+  same = failed.same;
+}
+
+-- answer lines behind others that were written
+pub answers_later : {S : Type 0} (held : S → Option (List ℕ)) (faults : S → ℕ) (first before now : S) (result : Result (Unit {0}) WriteRefused)
+    → faults before ≡ faults first → AnswerWrites held faults before now result → AnswerWrites held faults first now result
+answers_later held faults first before now (Ok done) quiet writes = writes ∙ quiet
+answers_later held faults first before now (Err refused.Failed) quiet writes = fails_later held faults first before now quiet writes
+answers_later held faults first before now (Err refused.NoMemory) quiet writes = writes ∙ quiet
+
+-- answer lines behind others that were written, the last of which was refused
+pub answers_refused : {S : Type 0} (held : S → Option (List ℕ)) (faults : S → ℕ) (first before now : S) (result : Result (Unit {0}) WriteRefused) (e : WriteRefused)
+    → IsErrAnd result (λ (y : WriteRefused). y ≡ e) → faults before ≡ faults first → AnswerWrites held faults before now (Err e) → AnswerWrites held faults first now result
+answers_refused held faults first before now (Ok done) e is quiet writes = absurd is
+answers_refused held faults first before now (Err y) e is quiet writes =
+    subst (λ (r : WriteRefused). AnswerWrites held faults first now (Err r)) (sym is) (answers_later held faults first before now (Err e) quiet writes)
+
+-- a line with a fault writes nothing
+pub fault_writes : {S : Type 0} (held : S → Option (List ℕ)) (faults : S → ℕ) (output : S) (fault : LineKind) → LineWrites held faults output output (Err (stop_of fault))
+fault_writes held faults output kind.NoMemory = refl
+fault_writes held faults output other = refl
+
+-- a run that a line stopped had no read fault
+pub stopped_reads : {S : Type 0} (left : S → Option (List ℕ)) (faults : S → ℕ) (before now : S) (e : Stopped) (n : ℕ) → faults now ≡ faults before
+    → InputFaults left faults before now (status_of e n)
+stopped_reads left faults before now (stopped.Fault kind) n quiet = quiet
+stopped_reads left faults before now stopped.WriteFault n quiet = quiet
+stopped_reads left faults before now stopped.NoMemory n quiet = quiet
+
+-- a run that a line stopped has the write fault of that line
+pub stopped_writes : {S : Type 0} (held : S → Option (List ℕ)) (faults : S → ℕ) (first before now : S) (e : Stopped) (n : ℕ) → faults before ≡ faults first
+    → LineWrites held faults before now (Err e) → OutputFaults held faults first now (status_of e n)
+stopped_writes held faults first before now (stopped.Fault kind) n quiet writes = writes ∙ quiet
+stopped_writes held faults first before now stopped.WriteFault n quiet writes = fails_later held faults first before now quiet writes
+stopped_writes held faults first before now stopped.NoMemory n quiet writes = writes ∙ quiet
+
+-- a generated run reads nothing
+pub generates_reads : {S : Type 0} (left : S → Option (List ℕ)) (faults : S → ℕ) (input : S) (checks : ℕ) (held held' : Option (List ℕ)) (s : Status)
+    → Generates checks held held' s → InputFaults left faults input input s
+generates_reads left faults input checks held held' status.ReadFault run = absurd run
+generates_reads left faults input checks held held' other run = refl
