@@ -10,8 +10,10 @@ use lib.ListN.{get_elem?}
 use Rattle.atomic_table.proofs.Lists.{at_longer}
 use Rattle.history_lock.specs.Known.{Known}
 use Rattle.history_lock.specs.Entries.{entries_by, NoneBy, GrownByOthers, Grown}
+use Rattle.history_lock.specs.Causes.{KnowsEnd}
 use Rattle.history_lock.specs.Calls.{Learned, LearnedOwn}
-use Rattle.history_lock.proofs.Prefixes.{at_below}
+use Rattle.history_lock.proofs.Prefixes.{prefix_trans, at_below}
+use Rattle.history_lock.proofs.Knowing.{knows_trans}
 
 module _ {I : Type 0} (caller_of : I → ℕ) where
   -- no entry is by n, if none is at any place
@@ -99,33 +101,41 @@ module _ {I : Type 0} (caller_of : I → ℕ) where
 
   module _ (Legal : List I → Type 0) where
     -- a pass that learned of others' entries
-    pub learned_of : (v w : Known I) → w.number ≡ v.number → v.made ≤ w.made → GrownByOthers caller_of v.number v.history w.history → Legal w.history → Learned caller_of Legal v w
-    learned_of v w number made others legal = record {
+    pub learned_of : (v w : Known I) → w.number ≡ v.number → v.made ≤ w.made → GrownByOthers caller_of v.number v.history w.history → Legal w.history → KnowsEnd v.ended v.history w.ended w.history → Learned caller_of Legal v w
+    learned_of v w number made others legal ended = record {
       number = number;
       made = made;
       others = others;
       own = entries_by-others v.number v.history w.history others;
       legal = legal;
+      ended = ended;
     }
 
     -- a pass that learned of others' entries, and then of its own
-    abbrev pub learned_own_of : (v : Known I) (e : I) (w : Known I) (before : List I) → w.number ≡ v.number → v.made ≤ w.made → GrownByOthers caller_of v.number v.history before → w.history ≡ before ++ e ∷ [] → caller_of e ≡ v.number → Legal w.history → LearnedOwn caller_of Legal v e w
-    learned_own_of v e w before number made others is by legal =
+    abbrev pub learned_own_of : (v : Known I) (e : I) (w : Known I) (before : List I) → w.number ≡ v.number → v.made ≤ w.made → GrownByOthers caller_of v.number v.history before → w.history ≡ before ++ e ∷ [] → caller_of e ≡ v.number → Legal w.history → v.ended ≡ None → w.ended ≡ None → LearnedOwn caller_of Legal v e w
+    learned_own_of v e w before number made others is by legal knew none =
         let grown : Grown caller_of v.history w.history v.number e = record { before = before; others = others; grown = is; by = by } in record {
           number = number;
           made = made;
           grown = grown;
           own = entries_by-grown v.history w.history v.number e grown;
           legal = legal;
+          knew_none = knew;
+          none_kept = none;
         }
 
     -- a pass that took a note of the book, where nobody is in flight: it stood for p and then for p', and the book's history was H and then H'
     pub learned_told : (p p' w : Known I) (H H' : List I) (f : Option ℕ) → p' ≡ p → H' ≡ H → w.history ≡ H' → f ≡ None → IsPrefix p.history H
         → ((k : ℕ) (e : I) → get_elem? H' k ≡ some e → caller_of e ≡ p'.number → (k < length p'.history) ⊎ ((f ≡ Some p'.number) × (suc k ≡ length H')))
-        → w.number ≡ p'.number → p.made ≤ w.made → Legal w.history → Learned caller_of Legal p w
-    learned_told p p' w H H' f same here is idle pre own number made legal =
+        → w.number ≡ p'.number → p.made ≤ w.made → Legal w.history → KnowsEnd p'.ended p'.history w.ended w.history → Learned caller_of Legal p w
+    learned_told p p' w H H' f same here is idle pre own number made legal ended =
         learned_of p w (number ∙ ap (λ (q : Known I). q.number) same) made
         (others_told p p' H H' w.history f same here is idle pre own) legal
+        (subst (λ (q : Known I). KnowsEnd q.ended q.history w.ended w.history) same ended)
+
+  -- where the history grew by others' entries, it begins the later one
+  pub others_begin : (n : ℕ) (h more : List I) → GrownByOthers caller_of n h more → IsPrefix h more
+  others_begin n h more g = (g.between, sym g.grown)
 
   -- others' entries came, and then others'
   pub others_trans : (n : ℕ) (h more most : List I) → GrownByOthers caller_of n h more → GrownByOthers caller_of n more most → GrownByOthers caller_of n h most
@@ -134,3 +144,27 @@ module _ {I : Type 0} (caller_of : I → ℕ) where
     grown = b.grown ∙ ap (λ (l : List I). l ++ b.between) a.grown ∙ append_assoc h a.between b.between;
     others = All-append (λ e. caller_of e ≢ n) a.between b.between a.others b.others;
   }
+
+  -- the same of a history that grew by the caller's own entry
+  pub grown_begin : (h more : List I) (n : ℕ) (e : I) → Grown caller_of h more n e → IsPrefix h more
+  grown_begin h more n e g = prefix_trans h g.before more (others_begin n h g.before g.others) (e ∷ [], sym g.grown)
+
+  module _ (Legal : List I → Type 0) where
+    -- what a pass knew begins what it knows
+    pub learned_begins : (v w : Known I) → Learned caller_of Legal v w → IsPrefix v.history w.history
+    learned_begins v w l = others_begin v.number v.history w.history l.others
+
+    -- and so it does where it learned of its own entry
+    pub learned_own_begins : (v : Known I) (e : I) (w : Known I) → LearnedOwn caller_of Legal v e w → IsPrefix v.history w.history
+    learned_own_begins v e w l = grown_begin v.history w.history v.number e l.grown
+
+    -- a pass that learned of others' entries, and then of others'
+    pub learned_trans : (u v w : Known I) → Learned caller_of Legal u v → Learned caller_of Legal v w → Learned caller_of Legal u w
+    learned_trans u v w a b = record {
+      number = b.number ∙ a.number;
+      made = (let x = a.made in let y = b.made in omega arith);
+      others = others_trans u.number u.history v.history w.history a.others (subst (λ (n : ℕ). GrownByOthers caller_of n v.history w.history) a.number b.others);
+      own = subst (λ (n : ℕ). entries_by caller_of n w.history ≡ entries_by caller_of n v.history) a.number b.own ∙ a.own;
+      legal = b.legal;
+      ended = knows_trans u.ended v.ended w.ended u.history v.history w.history a.ended b.ended;
+    }

@@ -10,8 +10,11 @@ use Rattle.atomic_table.proofs.Lists.{at_set, set_again}
 use Rattle.history_lock.specs.declared.view.Kind.TheVariants.{Book, Caller, Note, Receipt}
 use Rattle.history_lock.specs.declared.view.View.{View}
 use Rattle.history_lock.specs.Rule.{opened, FitsBook, Reaches, RuleAt, MeetsRule, IsTold, holds_rule}
-use Rattle.history_lock.specs.Kinds.{counted_up, newcomer, appended, note_of, longer_of, taken, receipt_of, in_flight_after, settled, spent}
-use Rattle.history_lock.proofs.Prefixes.{prefix_nil, prefix_self, prefix_trans, prefix_shorter, prefix_length, prefix_at, at_below, at_push}
+use Rattle.history_lock.specs.Kinds.{counted_up, newcomer, appended, ended_by, note_of, longer_of, taken, receipt_of, in_flight_after, settled, spent}
+use Rattle.history_lock.specs.declared.machine.EndCause.{EndCause}
+use Rattle.history_lock.specs.Causes.{KnowsEnd}
+use Rattle.history_lock.proofs.Prefixes.{prefix_nil, prefix_self, prefix_trans, prefix_shorter, prefix_length, prefix_between, prefix_at, at_below, at_push}
+use Rattle.history_lock.proofs.Knowing.{knows_none, knows_self, knows_nothing, either_knows, first_knows, second_knows}
 use Rattle.history_lock.proofs.Places.{each_set}
 use Rattle.history_lock.proofs.Moves.{at_book, book_moves, adds, other_moves, spends}
 
@@ -61,6 +64,9 @@ module _ {I : Type 0} (caller_of : I → ℕ) (Legal : List I → Type 0) (S : T
         note_begins = prefix_nil [];
         counted = omega arith;
         old_counted = omega arith;
+        ended = knows_none [] None [];
+        old_ended = knows_none [] None [];
+        note_ended = knows_none [] None [];
         numbered = (λ c. absurd (cc));
         names = inl refl;
         own = (λ c. absurd (cc));
@@ -70,9 +76,9 @@ module _ {I : Type 0} (caller_of : I → ℕ) (Legal : List I → Type 0) (S : T
   )
 
   -- append keeps the rule
-  pub appends : (id slots : ℕ) (v : View I) (c : List (ℕ × S)) (e : I) → v.kind ≡ Book → v.in_flight ≡ None → caller_of e < v.made → Legal (v.history ++ e ∷ []) → length (v.history ++ e ∷ []) < 2 ^ 64
+  pub appends : (id slots : ℕ) (v : View I) (c : List (ℕ × S)) (e : I) → v.kind ≡ Book → v.in_flight ≡ None → v.ended ≡ None → caller_of e < v.made → Legal (v.history ++ e ∷ []) → length (v.history ++ e ∷ []) < 2 ^ 64
       → Allows Held slots id (v, c) 0 (λ n. (n + 1) % 2 ^ 64) (λ n w. (d : I) × (v.history ++ e ∷ [] ≡ v.history ++ d ∷ []) × (w ≡ (appended caller_of v d, c)))
-  appends id slots v c e is idle below legal fits s kept homes at range =
+  appends id slots v c e is idle none below legal fits s kept homes at range =
       let k = at_book caller_of Legal s.words s.views id v kept at is in
       let w = appended caller_of v e in
       let more : IsPrefix v.history w.history = (e ∷ [], refl) in
@@ -81,6 +87,7 @@ module _ {I : Type 0} (caller_of : I → ℕ) (Legal : List I → Type 0) (S : T
       let next : (slice_index s.words 0 + 1) % 2 ^ 64 ≡ length w.history = rw n (omega (arith, length-append v.history (e ∷ []))) in
       let moved = book_moves caller_of Legal s.words s.views id v w k is more (omega arith) k.top
       (λ j x there. ⊎_elim (λ (old : get_elem? v.history j ≡ some x). k.callers j x old) (λ (new : (j ≡ length v.history) × (e ≡ x)). subst (λ (y : I). caller_of y < v.made) new.1 below) (at_push v.history e x j there))
+      (λ known h knows. knows_nothing known v.ended h v.history knows none w.ended w.history)
       record {
         one_book = (λ _. refl);
         legal = legal;
@@ -89,6 +96,9 @@ module _ {I : Type 0} (caller_of : I → ℕ) (Legal : List I → Type 0) (S : T
         note_begins = prefix_trans v.note_history v.history w.history f.note_begins more;
         counted = omega arith;
         old_counted = f.old_counted;
+        ended = knows_self w.ended w.history;
+        old_ended = knows_nothing v.old_ended v.ended v.old_history v.history f.old_ended none w.ended w.history;
+        note_ended = knows_nothing v.note_ended v.ended v.note_history v.history f.note_ended none w.ended w.history;
         numbered = (λ q. absurd (cc));
         names = inr (inl is);
         own = (λ q. absurd (cc));
@@ -129,6 +139,7 @@ module _ {I : Type 0} (caller_of : I → ℕ) (Legal : List I → Type 0) (S : T
       let f = k.each id v at in
       let counted = book_moves caller_of Legal s.words s.views id v w k is (prefix_self v.history) (omega arith) (omega arith)
       (λ j e there. let h = k.callers j e there in omega arith)
+      (λ known h knows. knows)
       record {
         one_book = (λ _. refl);
         legal = f.legal;
@@ -137,6 +148,9 @@ module _ {I : Type 0} (caller_of : I → ℕ) (Legal : List I → Type 0) (S : T
         note_begins = f.note_begins;
         counted = omega arith;
         old_counted = (let h = f.old_counted in omega arith);
+        ended = knows_self v.ended v.history;
+        old_ended = f.old_ended;
+        note_ended = f.note_ended;
         numbered = (λ c. absurd (cc));
         names = inr (inl is);
         own = (λ c. absurd (cc));
@@ -157,6 +171,9 @@ module _ {I : Type 0} (caller_of : I → ℕ) (Legal : List I → Type 0) (S : T
               note_begins = prefix_nil v.history;
               counted = omega arith;
               old_counted = omega arith;
+              ended = knows_self v.ended v.history;
+              old_ended = knows_none v.history v.ended v.history;
+              note_ended = knows_none [] v.ended v.history;
               numbered = (λ _. (omega arith, refl));
               names = inl refl;
               own = (λ _ j e there _. inl (at_below v.history j e there));
@@ -177,13 +194,45 @@ module _ {I : Type 0} (caller_of : I → ℕ) (Legal : List I → Type 0) (S : T
             })),
       )
 
+  -- end keeps the rule, where no cause was kept
+  pub ends : (id slots : ℕ) (v : View I) (c : List (ℕ × S)) (cause : EndCause) → v.kind ≡ Book → v.ended ≡ None
+      → Allows Held slots id (v, c) 0 (λ n. n) (λ n w. w ≡ (ended_by v cause, c))
+  ends id slots v c cause is none s kept homes at range =
+      let k = at_book caller_of Legal s.words s.views id v kept at is in
+      let w = ended_by v cause in
+      let f = k.each id v at in
+      let moved = book_moves caller_of Legal s.words s.views id v w k is (prefix_self v.history) (omega arith) k.top k.callers
+      (λ known h knows. knows_nothing known v.ended h v.history knows none w.ended w.history)
+      record {
+        one_book = (λ _. refl);
+        legal = f.legal;
+        begins = prefix_self v.history;
+        old_begins = f.old_begins;
+        note_begins = f.note_begins;
+        counted = omega arith;
+        old_counted = f.old_counted;
+        ended = knows_self w.ended w.history;
+        old_ended = knows_nothing v.old_ended v.ended v.old_history v.history f.old_ended none w.ended w.history;
+        note_ended = knows_nothing v.note_ended v.ended v.note_history v.history f.note_ended none w.ended w.history;
+        numbered = (λ q. absurd (cc));
+        names = inr (inl is);
+        own = (λ q. absurd (cc));
+      }
+      (λ i x there q. copied i x id v id w (k.pairs i x there q id v at) refl (λ names. names) (λ b. absurd (cc)) (λ b. absurd (cc))) in (
+        w,
+        keeps,
+        tt,
+        (id, w, subst (λ (ws : List ℕ). RuleAt caller_of Legal ws (set s.views id w) id w) (sym (ap (λ (ws : List ℕ). set ws 0 (slice_index ws 0)) k.word)) moved),
+        refl,
+      )
+
   -- a new view that is no caller's, and copies the history of a view
   copies : (words : List ℕ) (views : List (View I)) (b : ℕ) (v : View I) (id : ℕ) (y w : View I) → RuleAt caller_of Legal words views b v → get_elem? views id ≡ some y
-      → w.history ≡ y.history → w.old_history ≡ [] → w.note_history ≡ [] → w.made ≡ y.made → w.old_made ≡ 0 → (w.kind ≡ Book → ⊥) → (w.kind ≡ Caller → ⊥)
+      → w.history ≡ y.history → w.old_history ≡ [] → w.note_history ≡ [] → w.made ≡ y.made → w.old_made ≡ 0 → w.ended ≡ y.ended → w.old_ended ≡ None → w.note_ended ≡ None → (w.kind ≡ Book → ⊥) → (w.kind ≡ Caller → ⊥)
       → ((w.in_flight ≡ None) ⊎ ((w.kind ≡ Book) ⊎ (w.kind ≡ Note)))
       → ((i : ℕ) (x : View I) → get_elem? views i ≡ some x → x.kind ≡ Caller → (y.in_flight ≡ Some x.number → w.in_flight ≡ Some x.number) × (w.kind ≡ Receipt → w.number ≡ x.number → length w.history ≤ length x.history))
       → RuleAt caller_of Legal words (views ++ w ∷ []) b v
-  copies words views b v id y w k at same first second count old no_book no_caller who names =
+  copies words views b v id y w k at same first second count old ends old_ends note_ends no_book no_caller who names =
       let f = k.each id y at in
       adds caller_of Legal words views b v w k
       record {
@@ -194,6 +243,9 @@ module _ {I : Type 0} (caller_of : I → ℕ) (Legal : List I → Type 0) (S : T
         note_begins = subst (λ (h : List I). IsPrefix h w.history) (sym second) (prefix_nil w.history);
         counted = (let h = f.counted in omega arith);
         old_counted = omega arith;
+        ended = subst (λ (x : Option EndCause × List I). KnowsEnd x.0 x.1 v.ended v.history) (λ i. (sym ends i, sym same i)) f.ended;
+        old_ended = subst (λ (x : Option EndCause). KnowsEnd x w.old_history w.ended w.history) (sym old_ends) (knows_none w.old_history w.ended w.history);
+        note_ended = subst (λ (x : Option EndCause). KnowsEnd x w.note_history w.ended w.history) (sym note_ends) (knows_none w.note_history w.ended w.history);
         numbered = (λ c. absurd (no_caller c));
         names = who;
         own = (λ c. absurd (no_caller c));
@@ -207,7 +259,7 @@ module _ {I : Type 0} (caller_of : I → ℕ) (Legal : List I → Type 0) (S : T
   notes id v s kept at =
       let k = kept.2 in
       subst (λ (views : List (View I)). MeetsRule caller_of Legal s.words (views ++ note_of v ∷ [])) (sym (set_again s.views id v at))
-      (kept.0, kept.1, copies s.words s.views kept.0 kept.1 id v (note_of v) k at refl refl refl refl refl (λ b. cc) (λ b. cc) (inr (inr refl)) (λ i x there c. ((λ n. n), (λ b. absurd (cc)))))
+      (kept.0, kept.1, copies s.words s.views kept.0 kept.1 id v (note_of v) k at refl refl refl refl refl refl refl refl (λ b. cc) (λ b. cc) (inr (inr refl)) (λ i x there c. ((λ n. n), (λ b. absurd (cc)))))
 
   -- receipt keeps the rule
   pub receipts : (id : ℕ) (v : View I) → v.kind ≡ Caller → Splits Held id v v (receipt_of v)
@@ -216,7 +268,7 @@ module _ {I : Type 0} (caller_of : I → ℕ) (Legal : List I → Type 0) (S : T
       subst (λ (views : List (View I)). MeetsRule caller_of Legal s.words (views ++ receipt_of v ∷ [])) (sym (set_again s.views id v at)) (
         kept.0,
         kept.1,
-        copies s.words s.views kept.0 kept.1 id v (receipt_of v) k at refl refl refl refl refl (λ b. cc) (λ b. cc) (inl refl)
+        copies s.words s.views kept.0 kept.1 id v (receipt_of v) k at refl refl refl refl refl refl refl refl (λ b. cc) (λ b. cc) (inl refl)
             (λ i x there c. (
               (λ n. let m = (k.each id v at).numbered is in absurd (cc (n, m.1))),
               (λ _ same.
@@ -237,7 +289,7 @@ module _ {I : Type 0} (caller_of : I → ℕ) (Legal : List I → Type 0) (S : T
         tt,
         subst (λ (views : List (View I)). MeetsRule caller_of Legal (set s.words 0 (slice_index s.words 0)) views) (sym (set_again s.views id v at))
             (subst (λ (ws : List ℕ). MeetsRule caller_of Legal ws s.views) (k.word ∙ sym (ap (λ (ws : List ℕ). set ws 0 (slice_index ws 0)) k.word)) kept),
-        (refl, record { legal = f.legal; old_begins = f.old_begins; note_begins = f.note_begins; old_counted = f.old_counted; top = omega arith; callers = (λ b. (at_book caller_of Legal s.words s.views id v kept at b).callers); numbered = f.numbered; own = f.own }),
+        (refl, record { legal = f.legal; old_begins = f.old_begins; note_begins = f.note_begins; old_counted = f.old_counted; old_ended = f.old_ended; note_ended = f.note_ended; top = omega arith; callers = (λ b. (at_book caller_of Legal s.words s.views id v kept at b).callers); numbered = f.numbered; own = f.own }),
       )
 
   -- take keeps the rule, of a note that names nobody or this caller
@@ -258,17 +310,23 @@ module _ {I : Type 0} (caller_of : I → ℕ) (Legal : List I → Type 0) (S : T
       let first : IsPrefix h w.history = longer_is h g (λ l. IsPrefix h l) (λ _. prefix_self h) (λ lt. prefix_shorter h g book.history fv.begins fu.begins (omega arith)) in
       let second : IsPrefix g w.history = longer_is h g (λ l. IsPrefix g l) (λ le. prefix_shorter g h book.history fu.begins fv.begins le) (λ _. prefix_self g) in
       let grows : length h ≤ length w.history = prefix_length h w.history first in
+      let whole : IsPrefix w.history book.history = longer_is h g (λ l. IsPrefix l book.history) (λ _. fv.begins) (λ _. fu.begins) in
+      let of_h = λ (same : h ≡ book.history). prefix_between h w.history book.history first whole same in
+      let of_g = λ (same : g ≡ book.history). prefix_between g w.history book.history second whole same in
       let numbered = fv.numbered is in
       let counts = fv.counted in let counts2 = fu.counted in let counts3 = fv.old_counted in
       let moved = other_moves caller_of Legal s.words s.views b book id w k mine_off
       record {
         one_book = (λ c. absurd (cc));
         legal = longer_is h g Legal (λ _. fv.legal) (λ _. fu.legal);
-        begins = longer_is h g (λ l. IsPrefix l book.history) (λ _. fv.begins) (λ _. fu.begins);
+        begins = whole;
         old_begins = first;
         note_begins = second;
         counted = omega arith;
         old_counted = omega arith;
+        ended = either_knows v.ended u.ended book.ended h g w.history book.history fv.ended fu.ended of_h of_g;
+        old_ended = first_knows v.ended u.ended book.ended h w.history book.history fv.ended of_h;
+        note_ended = second_knows v.ended u.ended book.ended h g w.history book.history fv.ended fu.ended of_g;
         numbered = (λ _. (omega (arith, numbered.0), numbered.1));
         names = inl numbered.1;
         own = (λ _ j e here mine. longer_is h g (λ l. get_elem? l j ≡ some e → (j < length h) ⊎ ((u.in_flight ≡ Some v.number) × (suc j ≡ length g)))
@@ -303,6 +361,7 @@ module _ {I : Type 0} (caller_of : I → ℕ) (Legal : List I → Type 0) (S : T
       let fv = k.each id v at in
       let fu = k.each other u beside in
       let moved = book_moves caller_of Legal s.words s.views id v w k is (prefix_self v.history) (omega arith) k.top k.callers
+      (λ known h knows. knows)
       record {
         one_book = (λ _. refl);
         legal = fv.legal;
@@ -311,6 +370,9 @@ module _ {I : Type 0} (caller_of : I → ℕ) (Legal : List I → Type 0) (S : T
         note_begins = fv.note_begins;
         counted = omega arith;
         old_counted = fu.counted;
+        ended = knows_self v.ended v.history;
+        old_ended = fu.ended;
+        note_ended = fv.note_ended;
         numbered = (λ c. absurd (cc));
         names = inr (inl is);
         own = (λ c. absurd (cc));
@@ -336,7 +398,7 @@ module _ {I : Type 0} (caller_of : I → ℕ) (Legal : List I → Type 0) (S : T
       )
 
   -- append, where the list that is written is told in another way
-  pub appends_as : (id slots : ℕ) (v : View I) (c : List (ℕ × S)) (e : I) (written : List I) → written ≡ v.history ++ e ∷ [] → v.kind ≡ Book → v.in_flight ≡ None → caller_of e < v.made → Legal (v.history ++ e ∷ []) → length (v.history ++ e ∷ []) < 2 ^ 64
+  pub appends_as : (id slots : ℕ) (v : View I) (c : List (ℕ × S)) (e : I) (written : List I) → written ≡ v.history ++ e ∷ [] → v.kind ≡ Book → v.in_flight ≡ None → v.ended ≡ None → caller_of e < v.made → Legal (v.history ++ e ∷ []) → length (v.history ++ e ∷ []) < 2 ^ 64
       → Allows Held slots id (v, c) 0 (λ n. (n + 1) % 2 ^ 64) (λ n w. (d : I) × (written ≡ v.history ++ d ∷ []) × (w ≡ (appended caller_of v d, c)))
-  appends_as id slots v c e written same is idle below legal fits =
-      subst (λ (l : List I). Allows Held slots id (v, c) 0 (λ n. (n + 1) % 2 ^ 64) (λ n w. (d : I) × (l ≡ v.history ++ d ∷ []) × (w ≡ (appended caller_of v d, c)))) (sym same) (appends id slots v c e is idle below legal fits)
+  appends_as id slots v c e written same is idle none below legal fits =
+      subst (λ (l : List I). Allows Held slots id (v, c) 0 (λ n. (n + 1) % 2 ^ 64) (λ n w. (d : I) × (l ≡ v.history ++ d ∷ []) × (w ≡ (appended caller_of v d, c)))) (sym same) (appends id slots v c e is idle none below legal fits)

@@ -1,5 +1,5 @@
 -- The rule after a change of one view, or with one view more.
-use Rattle.std.proofs.Common.{◌≡◌, ◌≢◌, ℕ, ◌<◌, ◌≤◌, inl, List, [], ◌∷◌, ◌++◌, length, set, refl, sym, ap, ◌∙◌, subst, arith}
+use Rattle.std.proofs.Common.{◌≡◌, ◌≢◌, ℕ, ◌<◌, ◌≤◌, inl, List, [], ◌∷◌, ◌++◌, length, set, Option, None, refl, sym, ap, ◌∙◌, subst, arith}
 use mathlib.Core.List.{IsPrefix}
 use mathlib.Core.Option.{some, some-injective, some-ne-none}
 use lib.ListN.{get_elem?}
@@ -8,6 +8,9 @@ use Rattle.history_lock.specs.declared.view.Kind.TheVariants.{Book, Caller}
 use Rattle.history_lock.specs.declared.view.View.{View}
 use Rattle.history_lock.specs.Rule.{FitsBook, Reaches, RuleAt, MeetsRule}
 use Rattle.history_lock.specs.Kinds.{spent}
+use Rattle.history_lock.specs.declared.machine.EndCause.{EndCause}
+use Rattle.history_lock.specs.Causes.{KnowsEnd}
+use Rattle.history_lock.proofs.Knowing.{knows_none}
 use Rattle.history_lock.proofs.Prefixes.{prefix_nil, prefix_trans, at_below}
 use Rattle.history_lock.proofs.Places.{each_set, each_push, pairs_set, pairs_push}
 
@@ -33,10 +36,11 @@ module _ {I : Type 0} (caller_of : I → ℕ) (Legal : List I → Type 0) where
       → v.made ≤ w.made
       → w.made ≤ 1048576
       → ((k : ℕ) (e : I) → get_elem? w.history k ≡ some e → caller_of e < w.made)
+      → ((known : Option EndCause) (h : List I) → KnowsEnd known h v.ended v.history → KnowsEnd known h w.ended w.history)
       → FitsBook caller_of Legal b w b w
       → ((i : ℕ) (x : View I) → get_elem? views i ≡ some x → IsCaller x → Reach i x b w)
       → RuleAt caller_of Legal (length w.history ∷ []) (set views b w) b w
-  book_moves words views b v w k is longer more top callers fits reaches =
+  book_moves words views b v w k is longer more top callers knows fits reaches =
       record {
         there = set_here views b w (at_below views b v k.there);
         is_book = is;
@@ -52,6 +56,9 @@ module _ {I : Type 0} (caller_of : I → ℕ) (Legal : List I → Type 0) where
               note_begins = f.note_begins;
               counted = (let h = f.counted in omega arith);
               old_counted = f.old_counted;
+              ended = knows u.ended u.history f.ended;
+              old_ended = f.old_ended;
+              note_ended = f.note_ended;
               numbered = f.numbered;
               names = f.names;
               own = f.own;
@@ -113,6 +120,9 @@ module _ {I : Type 0} (caller_of : I → ℕ) (Legal : List I → Type 0) where
         note_begins = prefix_nil [];
         counted = omega arith;
         old_counted = omega arith;
+        ended = knows_none [] v.ended v.history;
+        old_ended = knows_none [] None [];
+        note_ended = knows_none [] None [];
         numbered = (λ e. absurd (cc));
         names = inl refl;
         own = (λ e. absurd (cc));

@@ -13,6 +13,7 @@ use Rattle.history_lock.specs.Rule.{RuleAt, MeetsRule}
 use Rattle.history_lock.specs.PlainRule.{OwnEntries, PlainAt, MeetsPlainRule}
 use Rattle.history_lock.specs.PlainRule.OwnEntries.{had, told}
 use Rattle.history_lock.proofs.Prefixes.{prefix_trans, prefix_at}
+use Rattle.history_lock.proofs.Knowing.{knows_trans}
 use Rattle.history_lock.proofs.Growth.{none_by, at_behind, entries_by-none, entries_by-append, entries_by-own, entries_by-others}
 
 module _ {I : Type 0} (caller_of : I → ℕ) where
@@ -83,6 +84,9 @@ module _ {I : Type 0} (caller_of : I → ℕ) (Legal : List I → Type 0) where
     old_history = (λ j u at _. let f = k.each j u at in prefix_trans u.old_history u.history v.history f.old_begins f.begins);
     note_history = (λ j u at _. let f = k.each j u at in prefix_trans u.note_history u.history v.history f.note_begins f.begins);
     made = (λ j u at _. let f = k.each j u at in let m = f.counted in let o = f.old_counted in (m, omega arith));
+    ended = (λ j u at _. (k.each j u at).ended);
+    old_ended = (λ j u at _. let f = k.each j u at in knows_trans u.old_ended u.ended v.ended u.old_history u.history v.history f.old_ended f.ended);
+    note_ended = (λ j u at _. let f = k.each j u at in knows_trans u.note_ended u.ended v.ended u.note_history u.history v.history f.note_ended f.ended);
     numbers_differ = (λ i x j y at there is is' apart same. apart ((k.pairs i x at is j y there).apart is' (sym same)));
     numbers_below = (λ j u at is. let f = k.each j u at in let n = (f.numbered is).0 in let m = f.counted in omega arith);
     callers_below = (λ j u at _ i e here. k.callers i e (prefix_at u.history v.history i e (k.each j u at).begins here));

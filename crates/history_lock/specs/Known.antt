@@ -1,5 +1,6 @@
 -- What a pass stands for.
-use Rattle.std.specs.Prelude.{ℕ, List}
+use Rattle.std.specs.Prelude.{ℕ, List, Option}
+use Rattle.history_lock.specs.declared.machine.EndCause.{EndCause}
 
 -- What a pass stands for. Its history is a beginning of the lock's, as long as the pass has learned of it.
 pub record Known (I : Type 0) : Type 0 where
@@ -9,3 +10,5 @@ pub record Known (I : Type 0) : Type 0 where
   pub history : List I
   -- how many passes it knows to be made
   pub made : ℕ
+  -- the kept cause, if it knows one: its history is the whole one then
+  pub ended : Option EndCause

@@ -1,5 +1,6 @@
 pub mod Known
 pub mod Entries
+pub mod Causes
 pub mod Rule
 pub mod PlainRule
 pub mod Kinds

@@ -6,6 +6,7 @@ use lib.ListN.{get_elem?}
 use Rattle.history_lock.specs.declared.view.Kind.TheVariants.{Book, Caller, Note, Receipt, Spent}
 use Rattle.history_lock.specs.declared.view.View.{View}
 use Rattle.history_lock.specs.Entries.{entries_by, CallersBelow}
+use Rattle.history_lock.specs.Causes.{KnowsEnd}
 
 module _ {I : Type 0} (caller_of : I → ℕ) where
   -- The entries of the caller in a history are those that it had before, or those and then the last of the note that names it
@@ -31,6 +32,10 @@ module _ {I : Type 0} (caller_of : I → ℕ) (Legal : List I → Type 0) where
     pub old_history : (j : ℕ) (u : View I) → get_elem? views j ≡ some u → u.kind ≢ Spent → IsPrefix u.old_history v.history
     pub note_history : (j : ℕ) (u : View I) → get_elem? views j ≡ some u → u.kind ≢ Spent → IsPrefix u.note_history v.history
     pub made : (j : ℕ) (u : View I) → get_elem? views j ≡ some u → u.kind ≢ Spent → (u.made ≤ v.made) × (u.old_made ≤ v.made)
+    -- A kept cause in a view, what it knew before and what it was told is the book's, and the history beside it is the book's whole history.
+    pub ended : (j : ℕ) (u : View I) → get_elem? views j ≡ some u → u.kind ≢ Spent → KnowsEnd u.ended u.history v.ended v.history
+    pub old_ended : (j : ℕ) (u : View I) → get_elem? views j ≡ some u → u.kind ≢ Spent → KnowsEnd u.old_ended u.old_history v.ended v.history
+    pub note_ended : (j : ℕ) (u : View I) → get_elem? views j ≡ some u → u.kind ≢ Spent → KnowsEnd u.note_ended u.note_history v.ended v.history
     -- The numbers of callers' views differ and are below the book's count, and so are the callers of all entries.
     pub numbers_differ : (i : ℕ) (x : View I) (j : ℕ) (y : View I) → get_elem? views i ≡ some x → get_elem? views j ≡ some y → x.kind ≡ Caller → y.kind ≡ Caller → i ≢ j → x.number ≢ y.number
     pub numbers_below : (j : ℕ) (u : View I) → get_elem? views j ≡ some u → u.kind ≡ Caller → u.number < v.made

@@ -8,19 +8,23 @@ use Rattle.atomic_table.specs.Table.{State}
 use Rattle.history_lock.specs.declared.view.Kind.TheVariants.{Book, Caller, Note, Receipt}
 use Rattle.history_lock.specs.declared.view.View.{View}
 use Rattle.history_lock.specs.Entries.{CallersBelow, OwnBelowOrLast}
+use Rattle.history_lock.specs.Causes.{KnowsEnd}
 
--- the book's view as the table opens: no entry, no pass made, nobody in flight
+-- the book's view as the table opens: no entry, no pass made, no cause kept, nobody in flight
 abbrev pub opened : {I : Type 0} → View I
 opened = record {
   kind = Book;
   number = 0;
   history = [];
   made = 0;
+  ended = None;
   in_flight = None;
   old_history = [];
   old_made = 0;
+  old_ended = None;
   note_history = [];
   note_name = None;
+  note_ended = None;
 }
 
 module _ {I : Type 0} (caller_of : I → ℕ) (Legal : List I → Type 0) where
@@ -40,6 +44,12 @@ module _ {I : Type 0} (caller_of : I → ℕ) (Legal : List I → Type 0) where
     pub counted : u.made ≤ v.made
     -- and knew of no more than it knows
     pub old_counted : u.old_made ≤ u.made
+    -- a kept cause that it knows is the book's, and its history is whole then
+    pub ended : KnowsEnd u.ended u.history v.ended v.history
+    -- one that it knew is the one that it knows, and no entry came
+    pub old_ended : KnowsEnd u.old_ended u.old_history u.ended u.history
+    -- and so is one that it was told
+    pub note_ended : KnowsEnd u.note_ended u.note_history u.ended u.history
     -- a caller knows that its own pass was made, and names nobody
     pub numbered : u.kind ≡ Caller → (u.number < u.made) × (u.in_flight ≡ None)
     -- only the book and notes name somebody
@@ -91,6 +101,10 @@ module _ {I : Type 0} (caller_of : I → ℕ) (Legal : List I → Type 0) where
     pub note_begins : IsPrefix v.note_history v.history
     -- it knew of no more passes than it knows
     pub old_counted : v.old_made ≤ v.made
+    -- a kept cause that it knew is the one that it knows, and no entry came
+    pub old_ended : KnowsEnd v.old_ended v.old_history v.ended v.history
+    -- and so is one that it was told
+    pub note_ended : KnowsEnd v.note_ended v.note_history v.ended v.history
     -- no more than 1,048,576 passes are made
     pub top : v.made ≤ 1048576
     -- of the book: the passes of all callers of entries were made

@@ -1,7 +1,9 @@
 // The lock.
-ghost use Rattle.std.specs.Prelude.{max, ◌≡◌, List, [], IfOk, IfErr, IsOk};
+ghost use Rattle.std.specs.Prelude.{max, ◌≡◌, ◌≤◌, List, [], None, Some, IfSome, IfOk, IfErr, IsOk};
 ghost use mathlib.Core.List.{IsPrefix};
+ghost use Rattle.history_lock.specs.declared.machine.EndCause.{EndCause};
 ghost use Rattle.history_lock.specs.Kinds.{longer_of};
+ghost use Rattle.history_lock.specs.Causes.{known_or};
 ghost use Rattle.history_lock.specs.Calls.{Learned, Answered, Refused, Admitted, NoneAdmitted};
 
 use crate::locked::{Locked, settle_receipt, take_note_of_pass};
@@ -67,7 +69,10 @@ impl<M: Machine, T: TableName> HistoryLock<M, T> {
         requires machine { M.entries machine ≡ [] }
         requires table { opened ≡ T.table }
         ensures starts { IsOk result }
-        ensures first { IfOk result (λ r. (r.1.number ≡ 0) × (r.1.history ≡ []) × (r.1.made ≡ 1)) }
+        ensures first { IfOk result (λ r. (r.1.number ≡ 0)
+            × (r.1.history ≡ [])
+            × (r.1.made ≡ 1)
+            × (r.1.ended ≡ None)) }
     {
         let Opened { table, mut book } = opened;
         let seat = steps::admit(&table, &mut book);
@@ -98,17 +103,19 @@ impl<M: Machine, T: TableName> HistoryLock<M, T> {
     pub fn admit<R: Wait>(&self, rt: &R, pass: &mut Pass<M, T>) -> Result<Pass<M, T>, AdmitRefused>
         ensures ok { IfOk result (λ new. Admitted M.caller_of M.legal pass.old new pass.new) }
         ensures full { IfErr result (λ r. NoneAdmitted M.caller_of M.legal pass.old r pass.new) }
+        ensures learned { Learned M.caller_of M.legal pass.old pass.new }
     {
         self.locked.lock(rt).admit(&self.table, pass)
     }
 
     /// Calls the machine, with an operation that is ready in every state. On Ok the pass's history
     /// has grown by entries of others and then by the one that this call made; the reply is the
-    /// machine's after the entries before it. The lock itself takes no memory.
+    /// machine's after the entries before it. No cause was kept when the entry was appended, and the
+    /// pass had known of none. The lock itself takes no memory.
     ///
     /// Ended where `end` was called before, with the kept cause, which fits what the pass then
-    /// knows; Machine only where the machine refuses after the history that the pass then knows. A
-    /// refused call adds no entry.
+    /// knows, and which the pass then knows to be kept; Machine only where the machine refuses after
+    /// the history that the pass then knows. A refused call adds no entry.
     pub fn call<R: Wait>(
         &self,
         rt: &R,
@@ -120,6 +127,8 @@ impl<M: Machine, T: TableName> HistoryLock<M, T> {
             Answered M.caller_of M.legal M.is_ready M.gives pass.old op reply pass.new) }
         ensures err { IfErr result (λ r.
             Refused M.caller_of M.legal M.refuses M.fits pass.old op r pass.new) }
+        ensures number { pass.new.number ≡ pass.old.number }
+        ensures grows { IsPrefix pass.old.history pass.new.history }
     {
         let answer = self.locked.lock(rt).call(&self.table, pass, op);
         self.turn.notify_all();
@@ -137,6 +146,8 @@ impl<M: Machine, T: TableName> HistoryLock<M, T> {
             Answered M.caller_of M.legal M.is_ready M.gives pass.old op reply pass.new) }
         ensures err { IfErr result (λ r.
             Refused M.caller_of M.legal M.refuses M.fits pass.old op r pass.new) }
+        ensures number { pass.new.number ≡ pass.old.number }
+        ensures grows { IsPrefix pass.old.history pass.new.history }
     {
         let number = pass.number();
         let mut locked = self
@@ -149,11 +160,16 @@ impl<M: Machine, T: TableName> HistoryLock<M, T> {
     }
 
     /// Ends the lock by a cause that fits what the pass knows. The first cause is kept, and the
-    /// answer is the kept one, which fits what the pass then knows. It takes no memory.
+    /// answer is the kept one, which fits what the pass then knows, and which the pass then knows to
+    /// be kept. A pass that knew the kept cause before is answered that one. No entry comes from
+    /// then on, so a pass that knows the kept cause knows the whole history. It takes no memory.
     pub fn end<R: Wait>(&self, rt: &R, pass: &mut Pass<M, T>, cause: EndCause) -> EndCause
         requires { M.fits cause pass.old.history pass.old.made }
         ensures fits { M.fits result pass.new.history pass.new.made }
         ensures learned { Learned M.caller_of M.legal pass.old pass.new }
+        ensures top { pass.new.made ≤ 1048576 }
+        ensures knows { pass.new.ended ≡ Some result }
+        ensures knew { IfSome pass.old.ended (λ known. result ≡ known) }
     {
         let kept = self.locked.lock(rt).end(&self.table, pass, cause);
         self.turn.notify_all();
@@ -161,12 +177,21 @@ impl<M: Machine, T: TableName> HistoryLock<M, T> {
     }
 
     /// Two passes tell each other what they know. Both know the longer of the two histories then,
-    /// of which the other is a beginning, and neither has an entry more of its own. It takes
-    /// neither the lock nor memory.
+    /// of which the other is a beginning, and neither has an entry more of its own. A kept cause that
+    /// one of them knew both know then, and two that both knew are the same. It takes neither the
+    /// lock nor memory.
     pub fn meet(&self, first: &mut Pass<M, T>, second: &mut Pass<M, T>)
-        ensures equal { (first.new.history ≡ second.new.history) × (first.new.made ≡ second.new.made) }
+        ensures equal { (first.new.history ≡ second.new.history)
+            × (first.new.made ≡ second.new.made)
+            × (first.new.ended ≡ second.new.ended) }
         ensures longer { first.new.history ≡ longer_of second.old.history first.old.history }
         ensures made { first.new.made ≡ max first.old.made second.old.made }
+        ensures ended { first.new.ended ≡ known_or second.old.ended first.old.ended }
+        ensures one_cause { (cause other : EndCause)
+            → first.old.ended ≡ Some cause
+            → second.old.ended ≡ Some other
+            → cause ≡ other }
+        ensures top { first.new.made ≤ 1048576 }
         ensures first { Learned M.caller_of M.legal first.old first.new }
         ensures second { Learned M.caller_of M.legal second.old second.new }
     {
@@ -175,9 +200,11 @@ impl<M: Machine, T: TableName> HistoryLock<M, T> {
     }
 
     /// Ends the lock's life and gives the machine back. Its entries are legal, and begin with all
-    /// that the pass had seen. It takes no memory.
+    /// that the pass had seen. They are just those where the pass knew a kept cause. It takes no
+    /// memory.
     pub fn close(self, pass: Pass<M, T>) -> M
         ensures begins { IsPrefix pass.history (M.entries result) }
+        ensures ended { IfSome pass.ended (λ _. M.entries result ≡ pass.history) }
         ensures legal { M.legal (M.entries result) }
     {
         let HistoryLock {

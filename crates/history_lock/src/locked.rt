@@ -1,10 +1,11 @@
 // The value under the lock, and what a call does while it holds it.
-ghost use Rattle.std.specs.Prelude.{max, ◌≡◌, ℕ, suc, ◌+◌, ◌<◌, ◌≤◌, ◌⊎◌, List, [], length, None, Some, IfOk, IfErr, MatchResult, MatchOption, IsSome, true, false};
+ghost use Rattle.std.specs.Prelude.{max, ◌≡◌, ℕ, suc, ◌+◌, ◌<◌, ◌≤◌, ◌⊎◌, List, [], length, None, Some, IfOk, IfErr, MatchResult, MatchOption, IfSome, IsSome, true, false};
 ghost use mathlib.Core.List.{IsPrefix};
 ghost use Rattle.history_lock.specs.declared.view.Kind.TheVariants.{Book};
 ghost use Rattle.history_lock.specs.Entries.{CallersBelow, OwnBelow, OwnBelowOrLast};
+ghost use Rattle.history_lock.specs.Causes.{KnowsEnd, known_or};
 ghost use Rattle.history_lock.specs.Names.{IsNamed};
-ghost use Rattle.history_lock.specs.Kinds.{longer_of};
+ghost use Rattle.history_lock.specs.Kinds.{ended_by, longer_of};
 ghost use Rattle.history_lock.specs.Calls.{Learned, Answered, Refused, IsEndedBy, Admitted, NoneAdmitted};
 
 use crate::machine::{EndCause, Machine};
@@ -38,7 +39,7 @@ impl<M: Machine, T: TableName> Model for Locked<M, T> {
     ghost view = { λ l. (M.entries l.machine, l.made, l.cause) };
 
     ghost invariant = { λ l. (l.book.table_id ≡ T.table)
-        × IsBook l.book.me.0 (M.entries l.machine) l.made
+        × IsBook l.book.me.0 (M.entries l.machine) l.made l.cause
         × (l.made ≤ 1048576)
         × CauseFits M.fits l.cause (M.entries l.machine) l.made };
 }
@@ -56,6 +57,7 @@ pub fn settle_receipt<M: Machine, T: TableName>(
     ensures seat { (book.new.table_id ≡ T.table) × (book.new.me.0.kind ≡ Book) }
     ensures book_history { book.new.me.0.history ≡ book.old.me.0.history }
     ensures book_made { book.new.me.0.made ≡ book.old.me.0.made }
+    ensures book_ended { book.new.me.0.ended ≡ book.old.me.0.ended }
     ensures idle { book.old.me.0.in_flight ≡ None → book.new.me.0.in_flight ≡ None }
     ensures lands { book.old.me.0.in_flight ≡ Some pass.old.number
         → pass.old.history ≡ book.old.me.0.history
@@ -63,6 +65,8 @@ pub fn settle_receipt<M: Machine, T: TableName>(
     ensures pass { pass.new ≡ pass.old }
     ensures begins { IsPrefix pass.old.history book.old.me.0.history }
     ensures made { pass.old.made ≤ book.old.me.0.made }
+    ensures ended { KnowsEnd pass.old.ended pass.old.history
+        book.old.me.0.ended book.old.me.0.history }
     ensures top { book.old.me.0.made ≤ 1048576 }
     ensures number { pass.old.number < pass.old.made }
     ensures legal { M.legal book.old.me.0.history }
@@ -89,8 +93,11 @@ pub fn take_note_of_book<M: Machine, T: TableName>(
     ensures book { (book.new.table_id ≡ T.table) × (book.new.me ≡ book.old.me) }
     ensures history { pass.new.history ≡ book.old.me.0.history }
     ensures made { pass.new.made ≡ book.old.me.0.made }
+    ensures ended { pass.new.ended ≡ known_or pass.old.ended book.old.me.0.ended }
+    ensures known { KnowsEnd pass.old.ended pass.old.history pass.new.ended pass.new.history }
     ensures number { pass.new.number ≡ pass.old.number }
     ensures legal { M.legal pass.new.history }
+    ensures top { pass.new.made ≤ 1048576 }
     ensures own { OwnBelowOrLast M.caller_of pass.old.number book.old.me.0.history
         (length pass.old.history) book.old.me.0.in_flight (length book.old.me.0.history) }
 {
@@ -109,15 +116,42 @@ pub fn take_note_of_pass<M: Machine, T: TableName>(
     ensures from { from.new ≡ from.old }
     ensures longer { to.new.history ≡ longer_of to.old.history from.old.history }
     ensures made { to.new.made ≡ max to.old.made from.old.made }
+    ensures ended { to.new.ended ≡ known_or to.old.ended from.old.ended }
+    ensures known { KnowsEnd to.old.ended to.old.history to.new.ended to.new.history }
+    ensures told { KnowsEnd from.old.ended from.old.history to.new.ended to.new.history }
     ensures begins { IsPrefix to.old.history to.new.history }
     ensures covers { IsPrefix from.old.history to.new.history }
     ensures number { to.new.number ≡ to.old.number }
     ensures legal { M.legal to.new.history }
+    ensures top { to.new.made ≤ 1048576 }
     ensures own { OwnBelow M.caller_of to.old.number to.new.history (length to.old.history) }
 {
     let note = steps::note(table, &mut from.seat);
     steps::take(table, &mut to.seat, note);
     steps::read(table, &mut to.seat);
+}
+
+/// Keeps a cause, unless one is kept already, and answers the kept one, which the book then knows.
+fn keep_cause<M: Machine>(
+    table: &LockTable<M>,
+    book: &mut LockSeat<M>,
+    kept: Option<EndCause>,
+    cause: EndCause,
+) -> EndCause
+    requires table { (book.old.table_id ≡ table.now.shared.table_id)
+        × (table.now.shared.table_id.words ≡ 1) }
+    requires book { (book.old.me.0.kind ≡ Book) × (book.old.me.0.ended ≡ kept) }
+    ensures first { MatchOption kept (result ≡ cause) (λ first. result ≡ first) }
+    ensures seat { book.new.table_id ≡ book.old.table_id }
+    ensures book { book.new.me ≡ (ended_by book.old.me.0 result, book.old.me.1) }
+{
+    match kept {
+        Some(first) => first,
+        None => {
+            steps::end::<M, Brand>(table, book, cause);
+            cause
+        }
+    }
 }
 
 impl<M: Machine, T: TableName> Locked<M, T> {
@@ -199,19 +233,23 @@ impl<M: Machine, T: TableName> Locked<M, T> {
         })
     }
 
-    /// Keeps the cause, unless one is kept already, and answers the kept one.
+    /// Keeps the cause, unless one is kept already, and answers the kept one, which the pass then
+    /// knows.
     pub fn end(&mut self, table: &LockTable<M>, pass: &mut Pass<M, T>, cause: EndCause) -> EndCause
         requires table { IsNamed table.now.shared.table_id T.table }
         requires fits { M.fits cause pass.old.history pass.old.made }
         ensures fits { M.fits result pass.new.history pass.new.made }
         ensures learned { Learned M.caller_of M.legal pass.old pass.new }
+        ensures top { pass.new.made ≤ 1048576 }
+        ensures knows { pass.new.ended ≡ Some result }
+        ensures knew { IfSome pass.old.ended (λ known. result ≡ known) }
         ensures kept { self.new.2 ≡ Some result }
         ensures first { MatchOption self.old.2 (result ≡ cause) (λ first. result ≡ first) }
         ensures whole { pass.new.history ≡ self.old.0 }
         ensures rest { (self.new.0 ≡ self.old.0) × (self.new.1 ≡ self.old.1) }
     {
         settle_receipt(table, &mut self.book, pass);
-        let kept = self.cause.unwrap_or(cause);
+        let kept = keep_cause(table, &mut self.book, self.cause, cause);
         self.cause = Some(kept);
         take_note_of_book(table, &mut self.book, pass);
         kept

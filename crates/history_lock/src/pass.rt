@@ -21,7 +21,7 @@ impl TableName for Brand {
 }
 
 /// A caller of the lock whose table is named `T`. Contracts see its number, the history that it
-/// knows, and how many passes it knows to be made.
+/// knows, how many passes it knows to be made, and the cause that the lock keeps, if it knows one.
 #[derive(Drop)]
 pub struct Pass<M: Machine, T: TableName> {
     pub(crate) number: u32,
@@ -36,7 +36,7 @@ impl<M: Machine, T: TableName> Model for Pass<M, T> {
 
     ghost Value = { Known M.Item };
 
-    ghost view = { λ p. record { number = p.number; history = p.seat.me.0.history; made = p.seat.me.0.made } };
+    ghost view = { λ p. record { number = p.number; history = p.seat.me.0.history; made = p.seat.me.0.made; ended = p.seat.me.0.ended } };
 
     ghost invariant = { λ p. (p.seat.table_id ≡ T.table)
         × (p.seat.me.0.kind ≡ Caller)

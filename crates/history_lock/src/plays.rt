@@ -1,4 +1,4 @@
-// The kinds of step: open is the rule's first view, and the other seven stand here.
+// The kinds of step: open is the rule's first view, and the other eight stand here.
 use crate::machine::Machine;
 use crate::view::View;
 use atomic_table::{Join, Play, Split};
@@ -39,6 +39,31 @@ impl<M: Machine, W: Written<M::Item>> Play<(), View<M::Item>> for Appends<M, W> 
     ghost use Rattle.history_lock.specs.Plays.{Appended};
 
     ghost then = { Appended M.caller_of W.written };
+}
+
+/// The cause by which an end ends the lock. Each end picks it, as an append picks its list.
+pub trait Ending {
+    ghost use Rattle.history_lock.specs.declared.machine.EndCause.{EndCause};
+
+    /// The cause.
+    ghost cause: { EndCause };
+}
+
+impl Ending for Brand {
+    ghost use Rattle.history_lock.specs.declared.machine.EndCause.TheVariants.{NoMemory};
+
+    ghost cause = { NoMemory };
+}
+
+/// End: the book reads the word, and knows the cause `E` as the kept one.
+pub struct Ends<E> {
+    of: PhantomData<E>,
+}
+
+impl<I, E: Ending> Play<(), View<I>> for Ends<E> {
+    ghost use Rattle.history_lock.specs.Plays.{EndedBy};
+
+    ghost then = { EndedBy E.cause };
 }
 
 /// Admit: the book counts one pass more, and a new caller has the next number.

@@ -3,10 +3,12 @@
 ghost use Rattle.std.specs.Prelude.{◌≡◌, ◌+◌, ◌<◌, ◌^◌, ◌⊎◌, [], ◌∷◌, ◌++◌, None, Some, length, IfOk};
 ghost use Rattle.history_lock.specs.declared.view.Kind.TheVariants.{Book, Caller, Note, Receipt};
 ghost use Rattle.history_lock.specs.Rule.{IsTold, opened};
-ghost use Rattle.history_lock.specs.Kinds.{counted_up, newcomer, appended, note_of, taken, receipt_of, settled};
+ghost use Rattle.history_lock.specs.Kinds.{counted_up, newcomer, appended, ended_by, note_of, taken, receipt_of, settled};
 
-use crate::machine::Machine;
-use crate::plays::{Admits, Appends, Notes, Reads, Receipts, Settles, Takes, Written};
+use crate::machine::{EndCause, Machine};
+use crate::plays::{
+    Admits, Appends, Ending, Ends, Notes, Reads, Receipts, Settles, Takes, Written,
+};
 use crate::view::{LockSeat, LockTable};
 use atomic_table::Table;
 use std::alloc::{AllocError, Global};
@@ -38,7 +40,9 @@ pub fn append<M: Machine, W: Written<M::Item>>(
 )
     requires table { (book.old.table_id ≡ table.now.shared.table_id)
         × (table.now.shared.table_id.words ≡ 1) }
-    requires book { (book.old.me.0.kind ≡ Book) × (book.old.me.0.in_flight ≡ None) }
+    requires book { (book.old.me.0.kind ≡ Book)
+        × (book.old.me.0.in_flight ≡ None)
+        × (book.old.me.0.ended ≡ None) }
     requires written { W.written ≡ M.entries machine.now }
     requires legal { M.legal (M.entries machine.now) }
     requires entry { (e : M.Item)
@@ -51,6 +55,19 @@ pub fn append<M: Machine, W: Written<M::Item>>(
 {
     let _machine = machine;
     table.shared.fetch_add::<Appends<M, W>>(book, 0, 1);
+}
+
+/// The book knows a cause as the kept one, where it knew none.
+pub fn end<M: Machine, E: Ending>(table: &LockTable<M>, book: &mut LockSeat<M>, cause: EndCause)
+    requires table { (book.old.table_id ≡ table.now.shared.table_id)
+        × (table.now.shared.table_id.words ≡ 1) }
+    requires book { (book.old.me.0.kind ≡ Book) × (book.old.me.0.ended ≡ None) }
+    requires cause { E.cause ≡ cause }
+    ensures { (book.new.table_id ≡ book.old.table_id)
+        × (book.new.me ≡ (ended_by book.old.me.0 cause, book.old.me.1)) }
+{
+    let _cause = cause;
+    table.shared.load::<Ends<E>>(book, 0);
 }
 
 /// Makes the seat of the next caller.

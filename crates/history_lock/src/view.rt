@@ -1,5 +1,5 @@
 // What a seat at the lock's table knows.
-use crate::machine::Machine;
+use crate::machine::{EndCause, Machine};
 use atomic_table::{Seat, Table, TableRule};
 use std::alloc::Global;
 use std::collections::LinkedList;
@@ -28,6 +28,8 @@ pub struct View<I> {
     pub history: LinkedList<I>,
     /// How many passes it knows to be made.
     pub made: u64,
+    /// The kept cause, if it knows one: its history is the whole one then.
+    pub ended: Option<EndCause>,
     /// Of the book: the caller of the last entry, until that caller knows it. Of a note of the
     /// book: the same at that time.
     pub in_flight: Option<u64>,
@@ -36,10 +38,15 @@ pub struct View<I> {
     pub old_history: LinkedList<I>,
     /// Of the book: the count in the receipt that it settled.
     pub old_made: u64,
+    /// The kept cause that it knew then: of a caller before it took a note, of the book in the
+    /// receipt.
+    pub old_ended: Option<EndCause>,
     /// Of a caller: the history in the note that it took.
     pub note_history: LinkedList<I>,
     /// Of a caller: whom that note names.
     pub note_name: Option<u64>,
+    /// Of a caller: the kept cause in that note.
+    pub note_ended: Option<EndCause>,
 }
 
 /// The rule of the lock's table, for the machine `M`.

@@ -180,6 +180,36 @@ fn refuse_and_end<T: TableName + Send + Sync, R: Threads + Wait + Abort + Sync>(
 }
 
 #[test]
+fn tells_all_one_cause(rt: HostRuntime) -> Result<(), Fail> {
+    let opened = open_table::<Tally>(rt.alloc())?;
+    tell_all_one_cause::<Brand, _>(&rt, rt.alloc(), opened)
+}
+
+fn tell_all_one_cause<T: TableName + Send + Sync, R: Threads + Wait + Abort + Sync>(
+    rt: &R,
+    alloc: Global,
+    opened: Opened<Tally>,
+) -> Result<(), Fail>
+    requires { opened ≡ T.table }
+{
+    let (lock, mut one) = HistoryLock::<Tally, T>::start(Tally::new(alloc), opened)?;
+    let mut two = lock.admit(rt, &mut one).ok().ok_or("admits")?;
+    assert_eq!(rt; lock.call(rt, &mut two, Op::Add(3)).ok(), Some(0));
+    let full = EndCause::JournalFull {
+        entries: 0,
+        bytes: 64,
+    };
+    let causes = end_beside(rt, &lock, &mut one, &mut two, EndCause::NoMemory, full);
+    assert_eq!(rt; causes.0, causes.1);
+    assert!(rt; causes.0 == EndCause::NoMemory || causes.0 == full);
+    assert_eq!(rt; call_behind_the_end(rt, &lock, &mut one, 5), causes.0);
+    let (tally, kept) = end_and_close(rt, lock, two);
+    assert_eq!(rt; kept, causes.0);
+    assert_eq!(rt; tally.entries().len(), 1);
+    Ok(())
+}
+
+#[test]
 fn makes_each_pass_once(rt: HostRuntime) -> Result<(), Fail> {
     let opened = open_table::<Tally>(rt.alloc())?;
     make_each_pass::<Brand, _>(&rt, rt.alloc(), opened)

@@ -3,6 +3,7 @@ use mathlib.Core.Option.{some}
 use lib.ListN.{get_elem?}
 use Rattle.history_lock.specs.Entries.{NoneBy}
 use Rattle.history_lock.specs.declared.view.View.{View}
+use Rattle.history_lock.proofs.Knowing.{told_ended}
 use Rattle.history_lock.proofs.Growth.{learned_told, none_above, entries_by-none}
 use Rattle.history_lock.proofs.locked.Locked.admit.Goals as goal
 
@@ -17,7 +18,7 @@ returns-then-self-ge-MOST_PASSES-clause-full g c =
       all,
       t.made ∙ s.book_made ∙ inv.1.made ∙ all,
       learned_told m.caller_of m.legal c.args.pass.now c.settle_receipt.new.pass c.take_note_of_book.new.pass c.self.inside.book.me.0.history c.settle_receipt.new.book.me.0.history c.settle_receipt.new.book.me.0.in_flight
-          s.pass s.book_history t.history (s.idle inv.1.idle) s.begins t.own t.number (omega (arith, t.made, s.book_made, knows)) t.legal,
+          s.pass s.book_history t.history (s.idle inv.1.idle) s.begins t.own t.number (omega (arith, t.made, s.book_made, knows)) t.legal t.known,
     )
 
 pub returns-clause-ok : goal.returns-clause-ok
@@ -33,6 +34,7 @@ returns-clause-ok g c =
     let counted = c.admit-seat.new.book.me.0 in
     let is = ap (λ me. me.0) a.new.1 in
     let book = ap (λ me. me.0) a.same.1 in
+    let ended_of = λ (v : View g.row.M-Item.Denot). v.ended in
     let number : c.self.inside.made ≡ old.made = sym inv.1.made in
     let history : new.history ≡ old.history = ap (λ (v : View g.row.M-Item.Denot). v.history) is ∙ s.book_history in
     let made : new.made ≡ suc c.settle_receipt.new.book.me.0.made = ap (λ (v : View g.row.M-Item.Denot). v.made) is in
@@ -50,6 +52,7 @@ returns-clause-ok g c =
       legal = subst m.legal (sym history) s.legal;
       same_history = t.history ∙ same_history ∙ sym history;
       same_made = t.made ∙ same_made ∙ sym made;
+      same_ended = told_ended c.args.pass.now c.settle_receipt.new.pass w old.ended counted.ended old.history s.pass (ap ended_of book ∙ s.book_ended) s.ended t.ended ∙ sym (ap ended_of is ∙ s.book_ended);
       learned = learned_told m.caller_of m.legal c.args.pass.now c.settle_receipt.new.pass w old.history counted.history counted.in_flight
-          s.pass same_history t.history idle s.begins t.own t.number (omega (arith, t.made, same_made, s.book_made, knows)) t.legal;
+          s.pass same_history t.history idle s.begins t.own t.number (omega (arith, t.made, same_made, s.book_made, knows)) t.legal t.known;
     }
