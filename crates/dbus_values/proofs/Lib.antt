@@ -16,5 +16,10 @@ pub mod Whole
 pub mod HeaderFound
 pub mod WholeFound
 pub mod Streaming
+pub mod Prefixes
+pub mod BodyFound
 pub mod Writing
 pub mod Sending
+pub mod Sizes
+pub mod Building
+pub mod TextForm

@@ -121,7 +121,7 @@ body_place m = 16 + length (fields_of m) + gap 8 (16 + length (fields_of m))
 abbrev pub body_of : Message → List ℕ
 body_of m = all_marshalled false (body_place m) m.body
 
-message_length : (m : Message) → length (message_bytes false m) ≡ body_place m + length (body_of m)
+pub message_length : (m : Message) → length (message_bytes false m) ≡ body_place m + length (body_of m)
 message_length m =
     let F = fields_of m in
     let B = body_of m in

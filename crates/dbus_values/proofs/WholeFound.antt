@@ -23,7 +23,7 @@ use Rattle.dbus_values.proofs.Whole.{first_bytes, length-first, gap_16, read_aga
 -- ---- the first 16 bytes
 
 -- what the first 16 bytes say, when they say it
-record Started (bytes : List ℕ) (s : Start) : Type 0 where
+pub record Started (bytes : List ℕ) (s : Start) : Type 0 where
   long : 16 ≤ length bytes
   order : get_or bytes 0 0 ≡ order_byte s.big
   kind : get_or bytes 1 0 ≡ s.kind
@@ -34,7 +34,7 @@ record Started (bytes : List ℕ) (s : Start) : Type 0 where
   serial : u32_of s.big bytes 8 ≡ s.serial
   serial_pos : 0 < s.serial
   fields : u32_of s.big bytes 12 ≡ s.fields
-  small : total s ≤ 16777216
+  pub small : total s ≤ 16777216
 
 stop_ok_is : {A : Type 0} (x y : A) → ◌≡◌ {A = Result A Stop} (Ok x) (Ok y) → x ≡ y
 stop_ok_is x y e = ok_is {E = Stop} x y e
@@ -101,7 +101,7 @@ fields_start big body bytes n e =
     let same = stop_ok_is b n h.1 in
     (ltb-false _ _ g.0, same, subst (λ (k : ℕ). 16 + (k + gap 8 k) + body ≤ 16777216) same (ltb-false _ _ h.0))
 
-start_found : (bytes : List ℕ) (s : Start) → start_of bytes ≡ Ok s → Started bytes s
+pub start_found : (bytes : List ℕ) (s : Start) → start_of bytes ≡ Ok s → Started bytes s
 unfolding start_of
 start_found bytes s e =
     let b0 = bind_ok (order_of bytes) (λ big. kind_of bytes >>= λ kind. flags_of bytes >>= λ flags. body_of big bytes >>= λ body. serial_of big bytes >>= λ serial. fields_of big body bytes >>= λ fields. Ok (made big kind flags body serial fields)) s e in

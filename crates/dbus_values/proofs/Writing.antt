@@ -29,7 +29,7 @@ padding_push (suc i) = let k : suc i + 1 ≡ suc (i + 1) = omega arith in rw k (
 pub pushed : (out old next : List ℕ) (i : ℕ) → out ≡ old ++ padding i → next ≡ out ++ 0 ∷ [] → next ≡ old ++ padding (i + 1)
 pushed out old next i is more-is = rw (more-is, is, padding_push i) (append_assoc old (padding i) (0 ∷ []))
 
-front : (vs : List Value) (i : ℕ) (v : Value) → i < length vs → get_or vs i v ≡ v → drop i vs ≡ v ∷ drop (i + 1) vs
+pub front : (vs : List Value) (i : ℕ) (v : Value) → i < length vs → get_or vs i v ≡ v → drop i vs ≡ v ∷ drop (i + 1) vs
 front vs i v lt is = rw add-one (drop-cons vs i v lt ∙ ap (λ (w : Value). w ∷ drop (suc i) vs) is)
 
 row_trees : (n : _) (row : Row_of-Value n) → all_trees row ≡ list_trees (items-the_row-Value n row)
@@ -243,7 +243,7 @@ array_done of items value vs sig i at size old p1 u p2 out final value-is vs-is 
 pub entry_form : (value : Value) (k v : Value) → tree value ≡ trees.Entry (tree k) (tree v) → HasForm (tree value) → HasForm (tree k) × HasForm (tree v)
 entry_form value k v is form = entry_forms (tree k) (tree v) (subst HasForm is form)
 
-entry_size : (k v : Tree) (at : ℕ) → length (marshalled false at (trees.Entry k v)) ≡ gap 8 at + length (marshalled false (at + gap 8 at) k) + length (marshalled false (at + gap 8 at + length (marshalled false (at + gap 8 at) k)) v)
+pub entry_size : (k v : Tree) (at : ℕ) → length (marshalled false at (trees.Entry k v)) ≡ gap 8 at + length (marshalled false (at + gap 8 at) k) + length (marshalled false (at + gap 8 at + length (marshalled false (at + gap 8 at) k)) v)
 entry_size k v at =
     let m = marshalled false (at + gap 8 at) k in
     let n = marshalled false (at + gap 8 at + length m) v in

@@ -12,5 +12,7 @@ pub mod Next
 pub mod Trees
 pub mod Form
 pub mod Streams
+pub mod Told
 pub mod Written
+pub mod Capped
 pub mod Values

@@ -1,9 +1,10 @@
 // Laws about the form of values and messages. Each is the contract of a function that does nothing.
-ghost use Rattle.std.specs.Prelude.{◌≡◌, ◌+◌, ◌≤◌, ℕ, Bool, List, ◌++◌, length, Ok};
+ghost use Rattle.std.specs.Prelude.{◌≡◌, ◌+◌, ◌<◌, ◌≤◌, ℕ, Bool, List, ◌++◌, length, take, Ok};
+ghost use Rattle.dbus_values.specs.declared.fault.FaultKind.{FaultKind};
 ghost use Rattle.dbus_values.specs.Reading.{spot_at};
 ghost use Rattle.dbus_values.specs.Walk.{Walked, walked, values_at};
 ghost use Rattle.dbus_values.specs.Trees.{Trees, types_of, all_marshalled, all_pieces, AllFit};
-ghost use Rattle.dbus_values.specs.Next.{Seen};
+ghost use Rattle.dbus_values.specs.Next.{Seen, Whole, Partial, Bad, next_of};
 ghost use Rattle.dbus_values.specs.Streams.{IsForm, Stream, IsBytes};
 
 /// Values that were marshalled are read again by their signature, whatever follows them, in either
@@ -29,4 +30,20 @@ pub fn no_message_begins_another()
 /// The messages of a stream are no others, and neither is its rest.
 pub fn a_stream_has_one_reading()
     ensures one { (bytes : List ℕ) (ss ts : List Seen) (r q : List ℕ) → Stream bytes ss r → Stream bytes ts q → (ss ≡ ts) × (r ≡ q) }
+{}
+
+/// A fault stays the first fault, and a message the first message, whatever follows. A fault of
+/// the first 16 bytes shows as soon as the bytes up to it are there, every other one only when
+/// the whole length is there.
+pub fn an_answer_stays()
+    ensures fault { (bytes more : List ℕ) (kind : FaultKind) (at : ℕ) → next_of bytes ≡ Bad kind at → next_of (bytes ++ more) ≡ Bad kind at }
+    ensures whole { (bytes more : List ℕ) (seen : Seen) (used : ℕ) → next_of bytes ≡ Whole seen used → next_of (bytes ++ more) ≡ Whole seen used }
+{}
+
+/// Less than a whole message is `Partial`, however little of it is missing, and less than what is
+/// `Partial` is `Partial`. What is `Partial` has fewer bytes than the longest message.
+pub fn a_shorter_text_is_partial()
+    ensures message { (bytes : List ℕ) (seen : Seen) (used n : ℕ) → next_of bytes ≡ Whole seen used → n < used → next_of (take n bytes) ≡ Partial }
+    ensures shorter { (bytes more : List ℕ) → next_of (bytes ++ more) ≡ Partial → next_of bytes ≡ Partial }
+    ensures short { (bytes : List ℕ) → next_of bytes ≡ Partial → length bytes < 16777216 }
 {}

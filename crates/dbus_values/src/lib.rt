@@ -20,6 +20,7 @@ mod part;
 mod parts;
 mod posting;
 mod signature;
+mod size;
 mod start;
 mod strings;
 mod value;
@@ -33,9 +34,13 @@ pub use message::{Next, next_message};
 pub use part::Part;
 pub use parts::Parts;
 pub use posting::write_message;
+pub use size::message_size;
+pub use strings::is_path;
 pub use value::{Value, ValueList};
 pub use wire_message::WireMessage;
 pub use wire_out::{HeaderOut, WireOut};
 
 #[cfg(test)]
 mod tests;
+#[cfg(test)]
+mod writing_tests;

@@ -8,6 +8,7 @@ ghost use Rattle.dbus_values.specs.Messages.{total, signature_of, body_at, padde
 ghost use Rattle.dbus_values.specs.Starts.{start};
 ghost use Rattle.dbus_values.specs.Next.{Seen, Whole, seen, shown, answer, next_of};
 ghost use Rattle.dbus_values.specs.Streams.{IfWhole, IsForm};
+ghost use Rattle.dbus_values.specs.Told.{IfTold};
 
 use crate::basics::{gap, pad};
 use crate::cursor::Cursor;
@@ -180,6 +181,8 @@ pub fn next_message(bytes: &[u8]) -> Next
     ensures form { IfWhole (answer result) (λ seen used. IsForm (take used bytes.now) seen) }
     // What has the form of a message is read, whatever follows it.
     ensures again { (text more : List ℕ) (seen : Seen) → IsForm text seen → bytes.now ≡ text ++ more → answer result ≡ Whole seen (length text) }
+    // A message or a fault stays the answer, whatever follows.
+    ensures stays { IfTold (answer result) ((more : List ℕ) → next_of (bytes.now ++ more) ≡ answer result) }
     // A message lies within the bytes.
     ensures within { IfWhole (answer result) (λ seen used. used ≤ length bytes.now) }
 {

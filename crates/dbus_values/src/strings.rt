@@ -108,7 +108,9 @@ fn path_goes_on(slash: bool, path: &[u8]) -> bool
     !slash
 }
 
-/// Whether the bytes are an object path.
+/// Whether the bytes are an object path: `/` alone, or parts of ASCII letters, digits and `_`, at
+/// least one byte each, with a `/` before each and none behind the last (the D-Bus Specification,
+/// "Valid Object Paths").
 pub fn is_path(bytes: &[u8]) -> bool
     ensures exact { result ≡ is_path bytes.now }
 {
