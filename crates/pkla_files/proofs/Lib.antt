@@ -1,0 +1,3 @@
+pub mod OneSorted
+pub mod Comparing
+pub mod Parts

@@ -1,0 +1,4 @@
+pub mod Entries
+pub mod Returned
+pub mod Faults
+pub mod Orders
