@@ -1,0 +1,5 @@
+use Rattle.action_file_laws.proofs.TextElementsFound.{element_found}
+use Rattle.action_file_laws.proofs.text_elements.text_elements_read_have_a_form.Goals as goal
+
+pub returns : goal.returns
+returns c = record { found = λ name place bytes t x read held. let f = element_found name place bytes t x read held in (f.element, f.is, f.bytes_are, f.text, f.pairs) }

@@ -1,0 +1,9 @@
+use Rattle.std.proofs.Common.{◌≡◌, length}
+use Rattle.xml_pieces.specs.Bytes.{behind_spaces}
+use Rattle.xml_pieces.proofs.bytes.behind_spaces.Given as goal
+
+abbrev pub invariant-loop-b : goal.invariant-loop-b
+invariant-loop-b l = behind_spaces l.rest ≡ behind_spaces l.bytes
+
+abbrev pub decreases-loop-b : goal.decreases-loop-b
+decreases-loop-b l = length l.rest
