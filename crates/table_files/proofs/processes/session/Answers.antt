@@ -1,0 +1,5 @@
+use Rattle.table_files.proofs.Texts.{name_text}
+use Rattle.table_files.proofs.processes.session.Goals as goal
+
+pub text-requires : goal.text-requires
+text-requires c = name_text c.args.field.now c.requires
