@@ -20,7 +20,7 @@ same-equal (Identity.Group a) (Identity.User b) same = absurd (cc)
 abbrev others : Identity → List Identity → List Identity
 others x xs = filter (λ z. not (same_identity x z)) xs
 
--- whether an identity stands in a list
+-- whether an identity is in a list
 abbrev stands : Identity → List Identity → Bool
 stands y xs = any_of (λ i. same_identity i y) xs
 
@@ -48,7 +48,7 @@ others-more x y (z ∷ zs) = go (same_identity x z) (others-more x y zs)
 pub others-one : (x y : Identity) (a : Bool) → same_identity x y ≡ a → others x (y ∷ []) ≡ (if not a then y ∷ [] else [])
 others-one x y a is = ap (λ t. if not t then y ∷ [] else []) is
 
--- one more identity, added behind another one
+-- one more identity, added after another one
 pub added-behind : (x y : Identity) (found : List Identity) → added (x ∷ others x found) y ≡ x ∷ others x (added found y)
 added-behind x y found = go (same_identity x y) (stands y found) refl refl
   where
@@ -59,7 +59,7 @@ added-behind x y found = go (same_identity x y) (stands y found) refl refl
     go false true first second = rw (stands-others x y found first, second, first) refl
     go false false first second = rw (stands-others x y found first, second, first) (ap (λ xs. x ∷ xs) (sym (others-more x y found ∙ ap (λ xs. others x found ++ xs) (others-one x y false first))))
 
--- one more identity, added to a list in which each stands once
+-- one more identity, added to a list that has each once
 pub added-once : (xs : List Identity) (y : Identity) → added (without_repeats same_identity xs) y ≡ without_repeats same_identity (xs ++ y ∷ [])
 added-once [] y = refl
 added-once (x ∷ xs) y = added-behind x y (without_repeats same_identity xs) ∙ ap (λ found. x ∷ others x found) (added-once xs y)

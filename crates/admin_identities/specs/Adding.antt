@@ -5,7 +5,7 @@ use Rattle.authority_model.specs.declared.world.User.{User as UserRow}
 use Rattle.authority_model.specs.Lists.{any_of}
 use Rattle.authority_model.specs.Values.{same_identity}
 
--- the identities with one more at the end, unless it stands among them
+-- the identities with one more at the end, unless it is among them
 abbrev pub added : List Identity → Identity → List Identity
 added found identity = if any_of (λ i. same_identity i identity) found then found else found ++ identity ∷ []
 

@@ -14,7 +14,7 @@ abbrev pub is_named : Option Bytes → Bool
 is_named None = false
 is_named (Some name) = not (is_empty name)
 
--- whether an item is `unix-user:` or `unix-group:` with at least one byte behind it
+-- whether an item is `unix-user:` or `unix-group:` with at least one byte after it
 abbrev pub is_identity : Bytes → Bool
 is_identity item = is_named (after_front (codes "unix-user:") item) || is_named (after_front (codes "unix-group:") item)
 
@@ -22,7 +22,7 @@ is_identity item = is_named (after_front (codes "unix-user:") item) || is_named 
 abbrev pub faulty_place : List Bytes → Option ℕ
 faulty_place items = position (λ item. not (is_identity item)) items
 
--- the value of the key in the first group `[Configuration]`, where it stands
+-- the value of the key in the first group `[Configuration]`, where it has one
 abbrev pub value_in : List KeyGroup → Option Bytes
 value_in conf = option_and_then (value_of (codes "AdminIdentities")) (find (λ g. bytes_eq g.name (codes "Configuration")) conf)
 
@@ -34,7 +34,7 @@ configured conf = option_map items_of (value_in conf)
 abbrev pub file_fault : ℕ → Option (List Bytes) → Option AdminFault
 file_fault file items = option_map (λ item. fault.BadIdentity file item) (option_and_then faulty_place items)
 
--- the first fault of files, the first of which stands at this place
+-- the first fault of files, the first of which is at this place
 abbrev pub fault_from : ℕ → List (List KeyGroup) → Option AdminFault
 fault_from file [] = None
 fault_from file (conf ∷ confs) = or_else (file_fault file (configured conf)) (fault_from (file + 1) confs)

@@ -1,23 +1,22 @@
 // The administrators that the files of localauthority.conf.d name.
 ghost use Rattle.std.specs.Prelude.{◌≡◌, [], ◌∷◌, None, codes, find, bytes_eq, IfOk, MatchResult};
 ghost use Rattle.std.specs.Option.{option_copied};
-ghost use Rattle.pk_types.specs.Text.{IsText};
 ghost use Rattle.authority_model.specs.Words.{after_front};
 ghost use Rattle.admin_identities.specs.Configured.{is_named, is_identity, faulty_place, value_in, configured, file_fault, first_fault, admins_of, IsDue};
 
 use crate::fault::AdminFault;
 use keyfile_text::{Groups, GroupsList, KeyGroup, items};
-use pk_types::{List, NoMemory, Text, TextFault, TextList};
+use pk_types::{List, NoMemory, Text, TextList};
 use std::alloc::Global;
 
-/// What is left of a text behind this front.
+/// What is left of a text after this prefix.
 fn behind<'a>(front: &[u8], text: &'a [u8]) -> Option<&'a [u8]>
     ensures behind { option_copied result ≡ after_front front.now text.now }
 {
     text.strip_prefix(front)
 }
 
-/// Whether a text is this front and a name that is not empty.
+/// Whether a text is this prefix and a name that is not empty.
 fn names(front: &[u8], text: &[u8]) -> bool
     ensures names { result ≡ is_named (after_front front.now text.now) }
 {
@@ -86,35 +85,23 @@ fn checked(alloc: Global, file: u64, conf: &Groups) -> Result<Option<TextList>, 
     }
 }
 
-/// A text of bytes that are one.
-fn text(alloc: Global, bytes: &[u8]) -> Result<Text, NoMemory>
-    requires { IsText bytes.now }
-    ensures text { IfOk result (λ text. text ≡ bytes.now) }
-{
-    match Text::try_from_bytes(alloc, bytes) {
-        Ok(text) => Ok(text),
-        Err(TextFault::NoMemory) => Err(NoMemory),
-        Err(_) => unreachable!(),
-    }
-}
-
 /// The user with uid 0 alone.
 fn root_alone(alloc: Global) -> Result<TextList, NoMemory>
     ensures root { IfOk result (λ admins. admins ≡ codes "unix-user:0" ∷ []) }
 {
     let mut admins = List::new(alloc);
-    admins.try_push(text(alloc, b"unix-user:0")?)?;
+    admins.try_push(Text::of_known(alloc, b"unix-user:0")?)?;
     Ok(admins)
 }
 
 /// The administrators that configuration files name, in the order in which the files are read: the
 /// items of the key `AdminIdentities` of the group `[Configuration]` of the last file that has the
 /// key, and `unix-user:0` where none has (pklocalauthority(8), "Administrator Authentication"). A
-/// key without items counts: there is then no item.
+/// key without items counts, and the answer then has no item.
 ///
-/// An item is `unix-user:` or `unix-group:` with at least one byte behind it. It is refused as
-/// `BadIdentity` exactly where another item stands in one of the files, also in a file that a
-/// later one overrides, with the first such item of the first such file.
+/// An item is `unix-user:` or `unix-group:` with at least one byte after it. It is refused as
+/// `BadIdentity` exactly where one of the files has another item, even a file that a later one
+/// overrides, with the first such item of the first such file.
 pub fn admins(alloc: Global, confs: &GroupsList) -> Result<TextList, AdminFault>
     ensures admins { IfOk result (λ admins. admins ≡ admins_of confs.now) }
     ensures fault { MatchResult result (λ _. first_fault confs.now ≡ None)

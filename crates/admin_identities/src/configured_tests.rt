@@ -1,4 +1,4 @@
-// The administrators that files name. Who is wanted is said by pklocalauthority(8).
+// The administrators that files name. The expected administrators are those of pklocalauthority(8).
 use crate::{AdminFault, admins};
 use keyfile_text::{GroupsList, read};
 use pk_types::TextList;

@@ -30,8 +30,8 @@ fn or_root(mut identities: IdentityList) -> Result<IdentityList, NoMemory>
     Ok(identities)
 }
 
-/// The administrators that these words stand for, each once and in order, and uid 0 alone where they
-/// stand for nobody. A word that names nobody is passed over.
+/// The administrators that these words stand for, each once and in order, and uid 0 alone where
+/// they stand for nobody. A word that names nobody is skipped.
 pub fn expand(alloc: Global, world: &World, admins: &TextList) -> Result<IdentityList, NoMemory>
     ensures identities { IfOk result (λ l. l ≡ expand world.now admins.now) }
 {

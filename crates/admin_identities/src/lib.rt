@@ -2,8 +2,8 @@
 //! challenge that asks for one.
 //!
 //! `admins` reads them from the files of localauthority.conf.d, and `expand` says for whom they
-//! stand. A user stands for itself, and a group for the users whose row lists it, other than uid 0. Each
-//! stands in the list once, in the order of the words and then of the user table.
+//! stand. A user stands for itself, and a group for the users whose row lists it, other than uid 0.
+//! Each is in the list once, in the order of the words and then of the user table.
 #![tactic(auto)]
 
 mod configured;

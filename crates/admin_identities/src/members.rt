@@ -1,4 +1,4 @@
-// Lists of identities in which each stands once.
+// Lists of identities, each in the list once.
 ghost use Rattle.std.specs.Prelude.{◌≡◌, ◌==◌, ◌&&◌, not, flat_map, fold, OnOk};
 ghost use Rattle.authority_model.specs.Admins.{members, members_of_word};
 ghost use Rattle.authority_model.specs.Lists.{any_of};
@@ -8,14 +8,14 @@ ghost use Rattle.admin_identities.specs.Adding.{added, member_of};
 use authority_model::{User, World};
 use pk_types::{Identity, IdentityList, NoMemory, Text};
 
-/// Whether an identity stands in a list.
+/// Whether an identity is in a list.
 fn has(found: &[Identity], identity: Identity) -> bool
     ensures has { result ≡ any_of (λ i. same_identity i identity) found.now }
 {
     found.iter().any(|other| *other == identity)
 }
 
-/// Puts an identity at the end, unless it stands in the list already.
+/// Puts an identity at the end, unless it is in the list already.
 fn add(found: &mut IdentityList, identity: Identity) -> Result<(), NoMemory>
     ensures ok { OnOk result (found.new ≡ added found.old identity) }
 {
@@ -25,7 +25,7 @@ fn add(found: &mut IdentityList, identity: Identity) -> Result<(), NoMemory>
     found.try_push(identity)
 }
 
-/// Whether a group stands among these.
+/// Whether a group is among these.
 fn lists(gids: &[u32], gid: u32) -> bool
     ensures lists { result ≡ any_of (λ g. g == gid) gids.now }
 {

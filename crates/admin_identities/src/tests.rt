@@ -1,4 +1,4 @@
-// Administrators with ample memory. Who is wanted is said by pklocalauthority(8).
+// Administrators with ample memory. The expected administrators are those of pklocalauthority(8).
 use crate::expand;
 use authority_model::{Group, Loaded, User, World};
 use pk_types::{Identity, List, Text, TextList};

@@ -24,7 +24,7 @@ trim bytes = trim_back (trim_front bytes)
 -- a byte at the front of what stands before a cut
 abbrev pub onto_front : ℕ → Option (List ℕ × List ℕ) → Option (List ℕ × List ℕ)
 onto_front b None = None
-onto_front b (Some parts) = Some (b ∷ parts.0, parts.1)
+onto_front b (Some (before, behind)) = Some (b ∷ before, behind)
 
 -- what stands before the first such byte, and what stands behind it
 abbrev pub cut_at : ℕ → List ℕ → Option (List ℕ × List ℕ)

@@ -48,7 +48,7 @@ header name behind =
 -- cut at the first `]`
 abbrev pub header_of : Option (List ℕ × List ℕ) → Line
 header_of None = Faulty kind.BadHeader
-header_of (Some parts) = header parts.0 parts.1
+header_of (Some (name, behind)) = header name behind
 
 -- a key and its value
 abbrev pub setting : List ℕ → List ℕ → Line
@@ -62,7 +62,7 @@ setting key value =
 -- cut at the first `=`
 abbrev pub setting_of : Option (List ℕ × List ℕ) → Line
 setting_of None = Faulty kind.NoEquals
-setting_of (Some parts) = setting (trim parts.0) (trim parts.1)
+setting_of (Some (key, value)) = setting (trim key) (trim value)
 
 -- what a line without blanks at its ends says, in a group or before the first: `#` is 35, `[` is 91, `=` is 61
 abbrev pub line_of : Bool → List ℕ → Line

@@ -23,13 +23,13 @@ abbrev pub GroupMap : Type 0
 GroupMap = IndexMap (Bor (List ℕ)) PairMap (BuildHasherDefault FoldHasher)
 
 abbrev pub pair_in : Bor (List ℕ) × Bor (List ℕ) → Pair
-pair_in e = record { key = e.0.now; value = e.1.now }
+pair_in (key, value) = record { key = key.now; value = value.now }
 
 abbrev pub pairs_in : PairMap → List Pair
 pairs_in m = map pair_in m.entries
 
 abbrev pub group_in : Bor (List ℕ) × PairMap → KeyGroup
-group_in e = record { name = e.0.now; pairs = pairs_in e.1 }
+group_in (name, pairs) = record { name = name.now; pairs = pairs_in pairs }
 
 abbrev pub groups_in : GroupMap → List KeyGroup
 groups_in m = map group_in m.entries

@@ -6,9 +6,8 @@ ghost use Rattle.keyfile_text.specs.Maps.{grouped, groups_in, put_group, pairs_i
 
 use crate::groups::{Groups, KeyGroup};
 use crate::line::Said;
-use crate::slices::text;
 use indexmap::IndexMap;
-use pk_types::{NoMemory, Pair, PairList};
+use pk_types::{NoMemory, Pair, PairList, Text};
 use std::alloc::Global;
 
 /// Keys with their values.
@@ -172,8 +171,8 @@ fn pair_list(alloc: Global, pairs: &PairMap<'_>) -> Result<PairList, NoMemory>
 {
     let mut list = PairList::new(alloc);
     while let Some((key, value)) = pairs.get_index(list.len()) {
-        let key = text(alloc, key)?;
-        let value = text(alloc, value)?;
+        let key = Text::of_known(alloc, key)?;
+        let value = Text::of_known(alloc, value)?;
         list.try_push(Pair { key, value })?;
     }
     Ok(list)
@@ -186,7 +185,7 @@ pub fn group_list(alloc: Global, groups: &GroupMap<'_>) -> Result<Groups, NoMemo
 {
     let mut list = Groups::new(alloc);
     while let Some((name, pairs)) = groups.get_index(list.len()) {
-        let name = text(alloc, name)?;
+        let name = Text::of_known(alloc, name)?;
         let pairs = pair_list(alloc, pairs)?;
         list.try_push(KeyGroup { name, pairs })?;
     }

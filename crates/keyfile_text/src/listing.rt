@@ -5,7 +5,7 @@ ghost use Rattle.keyfile_text.specs.Items.{kept, items_of};
 ghost use Rattle.keyfile_text.specs.Runs.{IsPlain, IsSpecial, TakesEscape};
 
 use crate::escape::unescaped;
-use crate::slices::{text, trimmed};
+use crate::slices::trimmed;
 use pk_types::{NoMemory, Text, TextList};
 use std::alloc::Global;
 
@@ -33,7 +33,7 @@ fn push_item(alloc: Global, items: &mut TextList, item: &[u8]) -> Result<(), NoM
 {
     let item = trimmed(item);
     if !item.is_empty() {
-        let item = text(alloc, item)?;
+        let item = Text::of_known(alloc, item)?;
         items.try_push(item)?;
     }
     Ok(())

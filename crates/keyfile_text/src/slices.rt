@@ -1,12 +1,9 @@
-// Parts of bytes: trimmed, without an end, a line, a text.
-ghost use Rattle.std.specs.Prelude.{◌≡◌, ◌+◌, ◌<◌, ◌≤◌, ◌==◌, [], ◌∷◌, length, IfNone, IfOk, IfSome};
-ghost use Rattle.pk_types.specs.Text.{IsText};
+// Parts of bytes: trimmed, without an end, a line.
+ghost use Rattle.std.specs.Prelude.{◌≡◌, ◌+◌, ◌<◌, ◌≤◌, ◌==◌, [], ◌∷◌, length, IfNone, IfSome};
 ghost use Rattle.keyfile_text.specs.Bytes.{is_blank_of, trim_front, trim_back, trim, IsClean};
 ghost use Rattle.keyfile_text.specs.Lines.{raw_lines, without_end};
 
 use byte_pieces::cut;
-use pk_types::{NoMemory, Text, TextFault};
-use std::alloc::Global;
 
 fn is_blank(b: u8) -> bool
     ensures blank { result ≡ is_blank_of b }
@@ -82,17 +79,5 @@ pub fn next_line(bytes: &[u8]) -> Option<(&[u8], &[u8])>
     match cut(bytes, b'\n') {
         Some((front, _)) => Some(bytes.split_at(front.len() + 1)),
         None => Some(bytes.split_at(bytes.len())),
-    }
-}
-
-/// A text of bytes that are one.
-pub fn text(alloc: Global, bytes: &[u8]) -> Result<Text, NoMemory>
-    requires { IsText bytes.now }
-    ensures text { IfOk result (λ text. text ≡ bytes.now) }
-{
-    match Text::try_from_bytes(alloc, bytes) {
-        Ok(text) => Ok(text),
-        Err(TextFault::NoMemory) => Err(NoMemory),
-        Err(_) => unreachable!(),
     }
 }

@@ -25,6 +25,7 @@ fn texts_are_utf8_without_zero(rt: HostRuntime) -> Result<(), Fail> {
             Ok(text) => {
                 assert!(rt; want.is_ok());
                 assert!(rt; text.bytes() == bytes);
+                assert!(rt; Text::of_known(rt.alloc(), bytes)?.bytes() == bytes);
                 assert!(rt; text.try_copy()?.is_same(&text));
             }
             Err(fault) => assert!(rt; want == Err(fault), "{fault:?}"),

@@ -107,6 +107,20 @@ impl Text {
         }
     }
 
+    /// The text of bytes that are known to be one, so that memory alone is refused.
+    ///
+    /// # Errors
+    /// `NoMemory` alone.
+    pub fn of_known(alloc: Global, bytes: &[u8]) -> Result<Text, NoMemory>
+        requires text { IsText bytes.now }
+        ensures text { IfOk result (λ text. text ≡ bytes.now) }
+    {
+        match bytes.to_vec(alloc) {
+            Ok(bytes) => Ok(Text { bytes }),
+            Err(_) => Err(NoMemory),
+        }
+    }
+
     /// The bytes of the text.
     pub fn bytes(&self) -> &[u8]
         ensures bytes { result.now ≡ self.now }

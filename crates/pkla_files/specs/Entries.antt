@@ -15,7 +15,7 @@ use Rattle.pkla_files.specs.Returned.{pairs_of}
 abbrev pub list_in : Bytes → KeyGroup → List Bytes
 list_in key group = option_map_or items_of (value_of key group) []
 
--- whether one of the three results stands
+-- whether one of the three results is given
 abbrev pub has_result : KeyGroup → Bool
 has_result group = is_some (value_of (codes "ResultAny") group) || is_some (value_of (codes "ResultInactive") group) || is_some (value_of (codes "ResultActive") group)
 
@@ -27,15 +27,15 @@ has_no_item items = length items == 0
 abbrev pub lacks_key : KeyGroup → Bool
 lacks_key group = has_no_item (list_in (codes "Identity") group) || has_no_item (list_in (codes "Action") group) || not (has_result group)
 
--- the implicit authorization that a key gives, where it stands
+-- the implicit authorization that a key gives, if the key is there
 abbrev pub result_in : Bytes → KeyGroup → Option Implicit
 result_in key group = option_and_then implicit_of_word (value_of key group)
 
--- whether a key stands whose value is none of the six words
+-- whether a key is there whose value is none of the six words
 abbrev pub is_other_word : Bytes → KeyGroup → Bool
 is_other_word key group = is_some (value_of key group) && is_none (result_in key group)
 
--- whether a result stands that is none of the six words
+-- whether a result is given that is none of the six words
 abbrev pub has_other_word : KeyGroup → Bool
 has_other_word group = is_other_word (codes "ResultAny") group || is_other_word (codes "ResultInactive") group || is_other_word (codes "ResultActive") group
 

@@ -18,7 +18,7 @@ kind_name kind.Netgroup = codes "Netgroup"
 kind_name kind.ReturnValue = codes "ReturnValue"
 kind_name kind.NoMemory = codes "NoMemory"
 
--- the fault of a value of `ReturnValue`, where the key stands
+-- the fault of a value of `ReturnValue`, if the key is there
 abbrev pub return_fault : Option Bytes → Option PklaFaultKind
 return_fault None = None
 return_fault (Some value) = if is_bad_return value then Some kind.ReturnValue else None
@@ -31,12 +31,12 @@ group_fault group =
     else if list_any is_netgroup (list_in (codes "Identity") group) then Some kind.Netgroup
     else return_fault (value_of (codes "ReturnValue") group)
 
--- the fault of a group at this place, or else that of the groups behind it
+-- the fault of a group at this place, or else that of the groups after it
 abbrev pub fault_at : ℕ → Option PklaFaultKind → Option PklaFault → Option PklaFault
 fault_at place None later = later
 fault_at place (Some kind) later = Some (record { kind = kind; group = place })
 
--- the first fault of groups, the first of which stands at this place
+-- the first fault of groups, the first of which is at this place
 abbrev pub fault_from : ℕ → List KeyGroup → Option PklaFault
 fault_from place [] = None
 fault_from place (group ∷ groups) = fault_at place (group_fault group) (fault_from (place + 1) groups)

@@ -38,7 +38,7 @@ compare_files x y =
 
 -- a file of the directory at this place, with its own place
 abbrev pub file_in : ℕ → Dir → ℕ × Bytes → FileKey
-file_in place dir file = record { directory = dir.name; root = dir.root; name = file.1; place = record { dir = place; file = file.0 } }
+file_in place dir (file, name) = record { directory = dir.name; root = dir.root; name = name; place = record { dir = place; file = file } }
 
 -- the files of the directory at this place
 abbrev pub files_of : ℕ → Dir → List FileKey
@@ -46,7 +46,7 @@ files_of place dir = map (file_in place dir) (enumerate_from 0 dir.files)
 
 -- the files of all directories
 abbrev pub all_files : List Dir → List FileKey
-all_files dirs = flat_map (λ dir. files_of dir.0 dir.1) (enumerate_from 0 dirs)
+all_files dirs = flat_map (λ (place, dir). files_of place dir) (enumerate_from 0 dirs)
 
 -- the places of all files, each once and in ascending order
 pub record IsFileOrder (dirs : List Dir) (order : List FilePlace) : Type 0 where

@@ -7,11 +7,11 @@ use Rattle.keyfile_text.specs.Escapes.{escaped}
 use Rattle.keyfile_text.specs.Items.{items_of}
 use Rattle.authority_model.specs.Words.{Bytes}
 
--- whether a byte behind a `\` makes an escape other than `\;` (59)
+-- whether a byte after a `\` makes an escape other than `\;` (59)
 abbrev pub is_other_escape : ℕ → Bool
 is_other_escape b = is_some (escaped b) && not (b == 59)
 
--- whether an escape other than `\;` stands in the bytes, which stand behind a `\` (92) or behind none
+-- whether the bytes, which come after a `\` (92) or after none, have an escape other than `\;`
 abbrev pub escapes_other : Bool → Bytes → Bool
 escapes_other behind [] = false
 escapes_other true (b ∷ bytes) = is_other_escape b || escapes_other false bytes
@@ -19,7 +19,7 @@ escapes_other false (b ∷ bytes) = escapes_other (b == 92) bytes
 
 -- the pair of a key and a value; the key is not empty
 abbrev pub pair_of_parts : Bytes × Bytes → Option Pair
-pair_of_parts parts = if is_empty parts.0 then None else Some (record { key = parts.0; value = parts.1 })
+pair_of_parts (key, value) = if is_empty key then None else Some (record { key = key; value = value })
 
 -- the pair that an item `KEY=VALUE` says, cut at its first `=` (61)
 abbrev pub pair_of : Bytes → Option Pair
@@ -29,7 +29,7 @@ pair_of item = option_and_then pair_of_parts (cut_at 61 item)
 abbrev pub is_no_pair : Bytes → Bool
 is_no_pair item = not (is_some (pair_of item))
 
--- whether a value of the key has another escape than `\;`, or an item that says no pair
+-- whether a value of the key has an escape other than `\;`, or an item that says no pair
 abbrev pub is_bad_return : Bytes → Bool
 is_bad_return value = escapes_other false value || list_any is_no_pair (items_of value)
 

@@ -24,7 +24,7 @@ fn list_in(alloc: Global, group: &KeyGroup, key: &[u8]) -> Result<TextList, NoMe
     }
 }
 
-/// Whether one of the three results stands.
+/// Whether one of the three results is given.
 fn has_result(group: &KeyGroup) -> bool
     ensures has { result ≡ has_result group.now }
 {
@@ -33,7 +33,7 @@ fn has_result(group: &KeyGroup) -> bool
         || group.value(b"ResultActive").is_some()
 }
 
-/// The implicit authorization that a key gives, where it stands.
+/// The implicit authorization that a key gives, if the key is there.
 fn result_in(group: &KeyGroup, key: &[u8]) -> Option<Implicit>
     ensures value { result ≡ result_in key.now group.now }
 {
@@ -43,14 +43,14 @@ fn result_in(group: &KeyGroup, key: &[u8]) -> Option<Implicit>
     }
 }
 
-/// Whether a key stands whose value is none of the six words.
+/// Whether a key is there whose value is none of the six words.
 fn is_other_word(group: &KeyGroup, key: &[u8]) -> bool
     ensures other { result ≡ is_other_word key.now group.now }
 {
     group.value(key).is_some() && result_in(group, key).is_none()
 }
 
-/// Whether a result stands that is none of the six words.
+/// Whether a result is given that is none of the six words.
 fn has_other_word(group: &KeyGroup) -> bool
     ensures other { result ≡ has_other_word group.now }
 {
@@ -120,13 +120,13 @@ fn entry(alloc: Global, group: &KeyGroup) -> Result<RuleEntry, PklaFaultKind>
 /// The entries of a file's groups, each group one entry, in their order (pklocalauthority(8),
 /// "Authorization Entry").
 ///
-/// `Identity`, `Action` and at least one of `ResultAny`, `ResultInactive` and `ResultActive` stand,
-/// and the first two are lists with at least one item. A result is one of the six words of an
-/// implicit authorization. No identity begins with `unix-netgroup:`. `ReturnValue` is a list of
+/// `Identity`, `Action` and at least one of `ResultAny`, `ResultInactive` and `ResultActive` are
+/// given, and the first two are lists with at least one item. A result is one of the six words of
+/// an implicit authorization. No identity begins with `unix-netgroup:`. `ReturnValue` is a list of
 /// `KEY=VALUE`, each cut at its first `=`, with a key that is not empty and no escape but `\;`.
-/// Other keys are passed over.
+/// Other keys are ignored.
 ///
-/// The first faulty group is told, with the first of its kinds of fault in the order of
+/// The fault is that of the first faulty group: the first of its kinds in the order of
 /// `PklaFaultKind`.
 pub fn entries(alloc: Global, groups: &Groups) -> Result<RuleList, PklaFault>
     ensures entries { IfOk result (λ entries. entries ≡ map entry_of groups.now) }

@@ -2,7 +2,7 @@
 //! order in which the files of several directories are evaluated.
 //!
 //! Each group of a file is one authorization entry. A file with a faulty group has none, and its
-//! first fault is told.
+//! first fault is reported.
 #![tactic(auto)]
 
 mod directories;

@@ -1,17 +1,16 @@
 // The pairs of `ReturnValue`.
 ghost use Rattle.std.specs.Prelude.{◌≡◌, false, None, Some, if◌then◌else◌, IfErr, IfOk, MatchResult};
 ghost use Rattle.std.specs.List.{list_any, filter_map};
-ghost use Rattle.pk_types.specs.Text.{IsText};
 ghost use Rattle.pkla_files.specs.Faults.{IsDueKind, return_fault};
 ghost use Rattle.pkla_files.specs.Returned.{is_other_escape, escapes_other, is_no_pair, pair_of, pairs_of};
 
 use crate::fault::PklaFaultKind;
 use byte_pieces::cut;
 use keyfile_text::items;
-use pk_types::{NoMemory, Pair, PairList, Text, TextFault};
+use pk_types::{Pair, PairList, Text};
 use std::alloc::Global;
 
-/// Whether a byte behind a `\` makes an escape other than `\;`.
+/// Whether a byte after a `\` makes an escape other than `\;`.
 fn is_other_escape(b: u8) -> bool
     ensures other { result ≡ is_other_escape b }
 {
@@ -34,18 +33,6 @@ fn has_other_escape(value: &[u8]) -> bool
     false
 }
 
-/// A text of bytes that are one.
-fn text(alloc: Global, bytes: &[u8]) -> Result<Text, NoMemory>
-    requires { IsText bytes.now }
-    ensures text { IfOk result (λ text. text ≡ bytes.now) }
-{
-    match Text::try_from_bytes(alloc, bytes) {
-        Ok(text) => Ok(text),
-        Err(TextFault::NoMemory) => Err(NoMemory),
-        Err(_) => unreachable!(),
-    }
-}
-
 /// The pair that an item says.
 fn pair(alloc: Global, item: &Text) -> Result<Pair, PklaFaultKind>
     ensures pair { IfOk result (λ pair. pair_of item.now ≡ Some pair) }
@@ -58,8 +45,8 @@ fn pair(alloc: Global, item: &Text) -> Result<Pair, PklaFaultKind>
     if key.is_empty() {
         return Err(PklaFaultKind::ReturnValue);
     }
-    let key = text(alloc, key)?;
-    let value = text(alloc, value)?;
+    let key = Text::of_known(alloc, key)?;
+    let value = Text::of_known(alloc, value)?;
     Ok(Pair { key, value })
 }
 

@@ -1,4 +1,4 @@
-// Entries of files, first faults, and orders. Who is wanted is said by pklocalauthority(8).
+// Entries of files, first faults, and orders. The expected values are those of pklocalauthority(8).
 use crate::{Dir, DirList, FilePlace, PklaFaultKind, Root, entries, order};
 use authority_model::RuleList;
 use keyfile_text::{Groups, read};

@@ -1,5 +1,5 @@
 use Rattle.admin_identities.proofs.RootText.{root_text}
 use Rattle.admin_identities.proofs.configured.root_alone.Goals as goal
 
-pub text-requires : goal.text-requires
-text-requires c = root_text
+pub of_known-requires : goal.of_known-requires
+of_known-requires c = record { text = root_text }

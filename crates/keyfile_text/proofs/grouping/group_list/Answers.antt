@@ -4,8 +4,8 @@ use Rattle.keyfile_text.specs.Maps.{group_in, groups_in}
 use Rattle.keyfile_text.proofs.Copies.{entry_at, one_copied, group_texts}
 use Rattle.keyfile_text.proofs.grouping.group_list.Goals as goal
 
-pub text-requires : goal.text-requires
-text-requires c = (group_texts c.args.groups.now.entries _ _ c.in-Some.ensures.entry c.requires).0
+pub of_known-requires : goal.of_known-requires
+of_known-requires c = record { text = (group_texts c.args.groups.now.entries _ _ c.in-Some.ensures.entry c.requires).0 }
 
 pub pair_list-requires : goal.pair_list-requires
 pair_list-requires c = (group_texts c.args.groups.now.entries _ _ c.in-Some.ensures.entry c.requires).1

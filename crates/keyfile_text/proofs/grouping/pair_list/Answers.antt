@@ -4,11 +4,11 @@ use Rattle.keyfile_text.specs.Maps.{pair_in, pairs_in}
 use Rattle.keyfile_text.proofs.Copies.{entry_at, one_copied, pair_texts}
 use Rattle.keyfile_text.proofs.grouping.pair_list.Goals as goal
 
-pub text-requires : goal.text-requires
-text-requires c = (pair_texts c.args.pairs.now.entries _ _ c.in-Some.ensures.entry c.requires).0
+pub of_known-requires : goal.of_known-requires
+of_known-requires c = record { text = (pair_texts c.args.pairs.now.entries _ _ c.in-Some.ensures.entry c.requires).0 }
 
-pub text-requires-in-Some : goal.text-requires-in-Some
-text-requires-in-Some c = (pair_texts c.args.pairs.now.entries _ _ c.in-Some.ensures.entry c.requires).1
+pub of_known-requires-in-Some : goal.of_known-requires-in-Some
+of_known-requires-in-Some c = record { text = (pair_texts c.args.pairs.now.entries _ _ c.in-Some.ensures.entry c.requires).1 }
 
 pub loop-key-preserved : goal.loop-key-preserved
 loop-key-preserved c =

@@ -3,5 +3,5 @@ use Rattle.std.proofs.Common.{arith}
 use Rattle.keyfile_text.proofs.Cleans.{text_of_clean}
 use Rattle.keyfile_text.proofs.listing.push_item.Goals as goal
 
-pub text-requires : goal.text-requires
-text-requires c = text_of_clean _ (c.trimmed-item.ensures.clean c.requires.clean) (omega (arith, c.trimmed-item.ensures.shorter, c.requires.short))
+pub of_known-requires : goal.of_known-requires
+of_known-requires c = record { text = text_of_clean _ (c.trimmed-item.ensures.clean c.requires.clean) (omega (arith, c.trimmed-item.ensures.shorter, c.requires.short)) }

@@ -9,11 +9,11 @@ pub returns-in_default-clause-fault : goal.returns-in_default-clause-fault
 returns-in_default-clause-fault c =
     ap (λ p. if not (is_some p) then Some kind.ReturnValue else None) (no_pair _ _ c.bytes.ensures.bytes c.in_default.ensures.none)
 
-pub text-requires : goal.text-requires
-text-requires c = (cut_texts _ _ _ _ c.bytes.ensures.bytes c.bytes.ensures.text c.in-Some.ensures.found).0
+pub of_known-requires : goal.of_known-requires
+of_known-requires c = record { text = (cut_texts _ _ _ _ c.bytes.ensures.bytes c.bytes.ensures.text c.in-Some.ensures.found).0 }
 
-pub text-requires-2 : goal.text-requires-2
-text-requires-2 c = (cut_texts _ _ _ _ c.bytes.ensures.bytes c.bytes.ensures.text c.in-Some.ensures.found).1
+pub of_known-requires-2 : goal.of_known-requires-2
+of_known-requires-2 c = record { text = (cut_texts _ _ _ _ c.bytes.ensures.bytes c.bytes.ensures.text c.in-Some.ensures.found).1 }
 
 pub returns-clause-pair : goal.returns-clause-pair
 returns-clause-pair c =
