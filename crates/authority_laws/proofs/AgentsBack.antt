@@ -9,6 +9,7 @@ use Rattle.authority_model.specs.declared.pending.Agent.{Agent}
 use Rattle.authority_model.specs.declared.event.Call.{Call}
 use Rattle.authority_model.specs.declared.journal.Item.{Item}
 use Rattle.authority_model.specs.declared.key.Key.{Key}
+use Rattle.authority_model.specs.declared.process_id.ProcessId.{ProcessId}
 use Rattle.authority_model.specs.declared.world.Process.{Process as ProcessRow}
 use Rattle.authority_model.specs.declared.world.Session.{Session as SessionRow}
 use Rattle.authority_model.specs.Words.{Bytes}
@@ -53,7 +54,7 @@ facts_from past P process session subject f e = of subject e
     of : (subject : Subject) → facts past subject ≡ Some f → P f
     of (Subject.Process pid start) e = by_pid pid start e
     of (Subject.Session id) e = let row = map_some facts_of_session (session_row (world_of past) id) f e in subst P row.2 (session id row.0 row.1)
-    of (Subject.BusName name) e = let p = then_some (λ (p : ℕ × ℕ). facts_of_pid past p.0 p.1) (option_and_then (announced past) (caller_named name)) f e in by_pid p.0.0 p.0.1 p.2
+    of (Subject.BusName name) e = let p = then_some (λ (p : ProcessId). facts_of_pid past p.pid p.start) (option_and_then (announced past) (caller_named name)) f e in by_pid p.0.pid p.0.start p.2
 
 -- the uid that is known of a subject is that in its key
 pub facts_uid : (past : List Item) (subject : Subject) (f : Facts) → facts past subject ≡ Some f → f.uid ≡ uid_of_key f.key
@@ -88,7 +89,7 @@ is_registers past r a g free =
         let none : agent_of g.f.key (in_force past) ≡ None = ap (λ k. agent_of k (in_force past)) g.key_is ∙ free in
         ap (λ b. b && may_for past r.entry.caller g.f.uid && not (is_some (agent_of g.f.key (in_force past)))) lives ∙ ap (λ b. b && not (is_some (agent_of g.f.key (in_force past)))) may ∙ ap (λ o. not (is_some o)) none
 
--- what both directions say, with items that come behind the history
+-- what both directions say, with items that come after the history
 abbrev Back : List Item → Type 0
 Back past = (later : List Item) (a : Agent) → InForceSince later past a → Has (in_force past) a × NoneOf (λ past j. ends past a j) later past
 
@@ -136,6 +137,6 @@ both_ways : (past : List Item) → Back past × Forth past
 both_ways [] = ((λ later a h. absurd h), (λ later a h none. absurd h))
 both_ways (r ∷ before) = let ih = both_ways before in (back_step r before ih.0 ih.1, forth_step r before ih.0 ih.1)
 
--- what stands in the list, looking back finds, and what looking back finds stands in the list
+-- looking back finds what is in the list, and what it finds is in the list
 pub in_force_back : (past : List Item) (a : Agent) → (Has (in_force past) a → InForce past a) × (InForce past a → Has (in_force past) a)
 in_force_back past a = let ways = both_ways past in ((λ h. ways.1 [] a h tt), (λ h. (ways.0 [] a h).0))

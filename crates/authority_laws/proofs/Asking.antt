@@ -5,9 +5,7 @@ use Rattle.std.specs.Option.{option_map_or}
 use Rattle.pk_types.specs.declared.values.Pair.{Pair}
 use Rattle.pk_types.specs.declared.values.Subject.{Subject}
 use Rattle.pk_types.specs.declared.values.Implicit.{Implicit}
-use Rattle.pk_types.specs.declared.values.Identity.{Identity}
 use Rattle.authority_model.specs.declared.event.Call.{Call}
-use Rattle.authority_model.specs.declared.verdict.Cookie.{Cookie}
 use Rattle.authority_model.specs.declared.event.Event.{Event}
 use Rattle.authority_model.specs.declared.event.Event.TheVariants.{Call as Called}
 use Rattle.authority_model.specs.declared.message.ErrorCause.{ErrorCause}
@@ -25,7 +23,7 @@ use Rattle.authority_model.specs.Subjects.{facts}
 use Rattle.authority_model.specs.Peers.{live}
 use Rattle.authority_model.specs.declared.pending.Agent.{Agent}
 use Rattle.authority_model.specs.Agents.{agent_for}
-use Rattle.authority_model.specs.Challenges.{Question, question_in, begun_in, with_id, pending_beside}
+use Rattle.authority_model.specs.Challenges.{Question, Begun, question_in, begun_in, with_id, pending_beside}
 use Rattle.authority_model.specs.Grants.{kept}
 use Rattle.authority_model.specs.Deciding.{Decision, decided}
 use Rattle.authority_model.specs.Verdicts.{verdict_of}
@@ -97,7 +95,7 @@ question_is (Called serial quiet (Call.Check subject action details flags cancel
 question_is _ q e = absurd (cc)
 
 -- outputs with a Begin are the one that a check asks with
-pub outputs_ask : (past : List Item) (i : Item) → Follows past i → (q : Question) (b : Cookie × List Identity) (details : List Pair) (flags : ℕ) → i.entry.event ≡ Called q.serial q.quiet (Call.Check q.subject q.action details flags q.cancel) → begun_in i.entry.outputs ≡ Some b → AsksOnce past i.entry.caller i.entry.salt q.subject q.action q.cancel i.entry.outputs
+pub outputs_ask : (past : List Item) (i : Item) → Follows past i → (q : Question) (b : Begun) (details : List Pair) (flags : ℕ) → i.entry.event ≡ Called q.serial q.quiet (Call.Check q.subject q.action details flags q.cancel) → begun_in i.entry.outputs ≡ Some b → AsksOnce past i.entry.caller i.entry.salt q.subject q.action q.cancel i.entry.outputs
 outputs_ask past i follows q b details flags shape begins =
     let same : i.entry.outputs ≡ answers past i.entry.caller i.entry.moment i.entry.salt (Called q.serial q.quiet (Call.Check q.subject q.action details flags q.cancel)) i.loaded = follows.answered ∙ ap (λ (event : Event). answers past i.entry.caller i.entry.moment i.entry.salt event i.loaded) shape in
     let P : List Output → Type 0 = λ outputs. Silent outputs ⊎ AsksOnce past i.entry.caller i.entry.salt q.subject q.action q.cancel outputs in

@@ -19,7 +19,7 @@ unfolding hex
 hex_length zero n = refl
 hex_length (suc k) n = length-append (hex k (n / 16)) (hex_digit (n % 16) ∷ []) ∙ ap (λ m. m + 1) (hex_length k (n / 16)) ∙ omega arith
 
--- fronts of one text before ends of one length
+-- prefixes of one text before ends of one length
 same_front : (xs ys s t : Bytes) → xs ++ s ≡ ys ++ t → length s ≡ length t → xs ≡ ys
 same_front [] [] s t e n = refl
 same_front [] (y ∷ ys) s t e n = absurd (omega (arith, ap length e ∙ length-append (y ∷ ys) t, n))

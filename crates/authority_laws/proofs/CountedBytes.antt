@@ -10,7 +10,7 @@ use Rattle.authority_model.specs.declared.message.Output.{Output}
 use Rattle.authority_model.specs.Costs.{bytes_of, capped, cost_of_entry, cost_of_event, cost_of_output}
 use Rattle.authority_laws.specs.Counted.{outputs_in}
 
--- a cost that counts below the cap counts whole
+-- a cost below the cap counts whole
 uncapped : (c : ℕ) → capped c < 2 ^ 62 → capped c ≡ c
 uncapped c below = of (cases_lt c (2 ^ 62))
   where

@@ -1,4 +1,4 @@
--- The numbers of grants, and their keys.
+-- The numbers of temporary authorizations, and their keys.
 use Rattle.std.proofs.Common.{◌≡◌, ℕ, ◌==◌, ◌+◌, ◌<◌, Bool, true, false, not, List, [], ◌∷◌, ◌++◌, refl, ap, sym, ◌∙◌, inl, inr, ◌⊎◌, Option, Some, None, subst, length, arith}
 use Rattle.std.proofs.lemmas.Bool.Decides.{Decides-eqb}
 use Rattle.std.proofs.lemmas.List.{append-nil}
@@ -19,11 +19,11 @@ use Rattle.authority_laws.proofs.PendingBack.{pending_forth}
 use Rattle.authority_laws.proofs.ListedKeys.{listed_step, listed_beside, unloaded, pending_listed}
 use Rattle.authority_laws.proofs.Standing.{not_true, neither}
 
--- a new grant has the next number
+-- a new temporary authorization has the next number
 pub number_of_new : (past : List Item) → Legal past → (i : Item) (row : GrantRow) → granted past i ≡ Some row → row.id ≡ made past
 number_of_new past legal i row e = let m = granted_is past legal i row e in ap (λ (r : GrantRow). r.id) m.3
 
--- each grant that was not ended has a number below the count
+-- each temporary authorization that was not ended has a number below the count
 pub numbers_below : (past : List Item) → Legal past → (row : GrantRow) → Has (kept past) row → row.id < made past
 numbers_below [] legal row h = absurd h
 numbers_below (i ∷ past) legal row h = of (granted past i) refl (numbers_below past legal.1 row) (append_has (filter (λ g. not (ends_grant past g i)) (kept past)) (option_to_list (granted past i)) row h)
@@ -37,7 +37,7 @@ numbers_below (i ∷ past) legal row h = of (granted past i) refl (numbers_below
         of_new (inl same) = let n : row.id ≡ made past = number_of_new past legal.1 i row (e ∙ ap Some same) in omega (arith, n)
         of_new (inr none) = absurd none
 
--- at most one grant has a number
+-- at most one temporary authorization has a number
 pub one_number : (past : List Item) → Legal past → (n : ℕ) → AtMostOne (λ g. g.id == n) (kept past)
 one_number [] legal n = tt
 one_number (i ∷ past) legal n = of (granted past i) refl (one_filter (λ (g : GrantRow). g.id == n) (λ g. ends_grant past g i) (kept past) (one_number past legal.1 n))
@@ -58,7 +58,7 @@ one_number (i ∷ past) legal n = of (granted past i) refl (one_filter (λ (g : 
     of None e old = subst (AtMostOne (λ (g : GrantRow). g.id == n)) (sym (append-nil (filter (λ g. not (ends_grant past g i)) (kept past)))) old
     of (Some row) e old = one_append (λ (g : GrantRow). g.id == n) (filter (λ g. not (ends_grant past g i)) (kept past)) row old (λ t. find_none (λ (g : GrantRow). g.id == n) (filter (λ g. not (ends_grant past g i)) (kept past)) (none row e t))
 
--- the keys of the grants are listed
+-- the keys of the temporary authorizations are listed
 pub grants_listed : (past : List Item) → Legal past → (row : GrantRow) → Has (kept past) row → lists_key (world_of past) row.key ≡ true
 grants_listed [] legal row h = absurd h
 grants_listed (i ∷ past) legal row h = of (grants_listed past legal.1 row) (append_has (filter (λ g. not (ends_grant past g i)) (kept past)) (option_to_list (granted past i)) row h)

@@ -1,4 +1,4 @@
--- The grants are those that looking back finds.
+-- The temporary authorizations are those that looking back finds.
 use Rattle.std.proofs.Common.{◌≡◌, ℕ, ◌==◌, ◌+◌, ◌<◌, true, false, ◌&&◌, not, List, [], ◌∷◌, ◌++◌, refl, ap, sym, ◌∙◌, inl, inr, ◌⊎◌, Option, Some, None, subst, length, arith}
 use Rattle.std.proofs.lemmas.Bool.Decides.{Decides-eqb, Decides-ltb}
 use Rattle.std.proofs.lemmas.Slice.Eq.{bytes_eq-Decides}
@@ -32,7 +32,7 @@ use Rattle.authority_laws.proofs.PendingBack.{pending_back, pending_forth, answe
 use Rattle.authority_laws.proofs.OnePending.{one_serial}
 use Rattle.authority_laws.proofs.Standing.{not_true, has_left, has_right, filter_in}
 
--- why a verdict on a return has a grant
+-- why a verdict on a return has a temporary authorization
 pub record Makes (past : List Item) (n t : ℕ) (ch : Pending) (m : ℕ) : Type 0 where
   pub identity : Identity
   pub answered : ch.answered ≡ Some identity
@@ -68,7 +68,7 @@ serial_is : (e : Event) (s : ℕ) → serial_returned e ≡ Some s → e ≡ Ret
 serial_is (Returned s') s e = let same : s' ≡ s = cc in ap Returned same
 serial_is _ s e = absurd (cc)
 
--- an item that makes a grant, as the sentence says it, and back
+-- an item that makes a temporary authorization, as the sentence says it, and back
 pub granted_is : (past : List Item) → Legal past → (i : Item) (row : GrantRow) → granted past i ≡ Some row → (o : Pending) × (identity : Identity) × IsMade past i o identity × (row ≡ grant_row o i.entry.moment (made past))
 granted_is past legal i row e =
     let ch = then_some (made_by past (kept past) (made past) i.entry.moment) (returned past i) row e in
@@ -94,7 +94,7 @@ granted_is past legal i row e =
       sym n.2 ∙ ap (grant_row ch.0 i.entry.moment) (sym m.number),
     )
 
--- what the sentence says makes the grant
+-- what the sentence says makes the temporary authorization
 pub is_granted : (past : List Item) → Legal past → (i : Item) (o : Pending) (identity : Identity) → IsMade past i o identity → granted past i ≡ Some (grant_row o i.entry.moment (made past))
 is_granted past legal i o identity g =
     let p = pending_forth past legal o g.pending in
@@ -115,7 +115,7 @@ is_granted past legal i o identity g =
         IsAnswered' : Pending → Type 0
         IsAnswered' x = IsAnswered past x identity
 
--- the number of grants made counts the items that make one, and nothing else does
+-- the number of temporary authorizations made counts the items that make one, and nothing else does
 pub made_counts : (past : List Item) → Legal past → MadeCount past (made past)
 made_counts [] legal = refl
 made_counts (i ∷ past) legal = of (granted past i) refl (made_counts past legal.1)
@@ -134,7 +134,7 @@ counts_made (i ∷ past) legal n h = of (granted past i) refl (counts_made past 
     of (Some row) e ih (inl h) = h.1.1 ∙ ap (λ m. m + 1) (ih h.1.0 h.1.2)
     of (Some row) e ih (inr h) = let m = granted_is past legal.1 i row e in absurd (h.0 (m.0, m.1, m.2))
 
--- where a grant that was not ended was made
+-- where a temporary authorization that was not ended was made
 pub record Since (past : List Item) (row : GrantRow) : Type 0 where
   pub later : List Item
   pub i : Item
@@ -170,7 +170,7 @@ legal_part : (later : List Item) (i : Item) (before : List Item) → Legal (late
 legal_part [] i before legal = legal.1
 legal_part (x ∷ later) i before legal = legal_part later i before legal.1
 
--- a grant in the list that serves a key and an action is live, as looking back finds it
+-- a temporary authorization in the list that serves a key and an action is live, as looking back finds it
 pub live_back : (past : List Item) → Legal past → (row : GrantRow) (key : Key) (action : Bytes) (t : ℕ) → Has (kept past) row → serves key action t row ≡ true → IsLiveGrant past row.id key action t
 live_back past legal row key action t h serve =
     let f = since past row h in
@@ -194,7 +194,7 @@ live_back past legal row key action t h serve =
       stands = subst (λ (r : GrantRow). NoneOf (λ past j. ends_grant past r j) f.later (f.i ∷ f.before)) (m.3 ∙ ap (grant_row m.0 f.i.entry.moment) number) f.stands;
     }
 
--- a grant that looking back finds live is in the list, and serves
+-- a temporary authorization that looking back finds live is in the list, and serves
 pub live_forth : (past : List Item) → Legal past → (g : ℕ) (key : Key) (action : Bytes) (t : ℕ) → IsLiveGrant past g key action t → (row : GrantRow) × Has (kept past) row × (serves key action t row ≡ true) × (row.id ≡ g)
 live_forth past legal g key action t l =
     let legal' = legal_part l.later l.i l.before (subst Legal l.parts legal) in
@@ -209,10 +209,10 @@ live_forth past legal g key action t l =
       refl,
     )
 
--- a live grant is one that looking back finds, and back
+-- a live temporary authorization is one that looking back finds, and back
 pub live_both : (past : List Item) → Legal past → (g : ℕ) (key : Key) (action : Bytes) (t : ℕ) → ((row : GrantRow) × Has (kept past) row × (serves key action t row ≡ true) × (row.id ≡ g) → IsLiveGrant past g key action t) × (IsLiveGrant past g key action t → (row : GrantRow) × Has (kept past) row × (serves key action t row ≡ true) × (row.id ≡ g))
 live_both past legal g key action t = ((λ r. subst (λ n. IsLiveGrant past n key action t) r.3 (live_back past legal r.0 key action t r.1 r.2)), live_forth past legal g key action t)
 
--- the number of grants made is the one that looking back counts, and back
+-- the number of temporary authorizations made is the one that looking back counts, and back
 pub made_both : (past : List Item) → Legal past → (n : ℕ) → (n ≡ made past → MadeCount past n) × (MadeCount past n → n ≡ made past)
 made_both past legal n = ((λ e. subst (MadeCount past) (sym e) (made_counts past legal)), counts_made past legal n)

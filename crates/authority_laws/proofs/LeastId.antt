@@ -117,7 +117,7 @@ none_there : (xs : List Bytes) → least_text xs ≡ None → (c : Bytes) → Ha
 none_there [] e c h = h
 none_there (x ∷ xs) e c h = absurd (cc)
 
--- what is least stands in the list, and comes before each other text in it
+-- the least text is in the list, and comes before each other text in it
 least_some : (xs : List Bytes) (b : Bytes) → least_text xs ≡ Some b → Has xs b × ((c : Bytes) → Has xs c → (b ≡ c) ⊎ (comes_before b c ≡ true))
 least_some [] b e = absurd (cc)
 least_some (x ∷ xs) b e = go (least_text xs) refl (least_some xs) e
@@ -169,7 +169,7 @@ least_is xs b h least = of (least_text xs) refl
         same (inr lt) (inl e) = ap Some (sym e)
         same (inr lt) (inr gt) = absurd (irreflexive y (transitive y b y lt gt))
 
--- what stands in a list and passes stays behind a filter
+-- what is in a list and passes stays after a filter
 has_filter : {A : Type 0} (test : A → Bool) (xs : List A) (y : A) → Has xs y → test y ≡ true → Has (filter test xs) y
 has_filter test [] y h t = absurd h
 has_filter {A} test (x ∷ xs) y h t = of (test x) refl h (λ h. has_filter test xs y h t)
@@ -207,32 +207,32 @@ pub implying_forth : (past : List Item) (grants : List GrantRow) (f : Facts) (t 
 implying_forth past grants f t a b l = least_is (implying past grants f t a) b (may_listed past grants f t a b l.may) (λ c h. l.least c (listed_may past grants f t a c h))
 
 -- what decides
-pub implied_back : (past : List Item) (grants : List GrantRow) (f : Facts) (t : ℕ) (a b : Bytes) (v : Implicit × RuleSource) → decided past grants f t a v ≡ Decision.Imply b → IsImplied past grants f t a v b
-implied_back past grants f t a b v e = of (f.uid == 0) refl (is_yes v.0) refl (find (serves f.key a t) grants) refl (least_text (implying past grants f t a)) refl e
+pub implied_back : (past : List Item) (grants : List GrantRow) (f : Facts) (t : ℕ) (a b : Bytes) (value : Implicit) (source : RuleSource) → decided past grants f t a (value, source) ≡ Decision.Imply b → IsImplied past grants f t a value b
+implied_back past grants f t a b value source e = of (f.uid == 0) refl (is_yes value) refl (find (serves f.key a t) grants) refl (least_text (implying past grants f t a)) refl e
   where
     other : (f.uid == 0) ≡ false → f.uid ≡ 0 → ⊥
     other is same = absurd (cc (is, (Decides-eqb f.uid 0).1 same))
 
-    value : (auth : Bool) → (if auth then Decision.Challenge v.0 v.1 else Decision.No v.1) ≡ Decision.Imply b → ⊥
-    value true e = absurd (cc)
-    value false e = absurd (cc)
+    no_value : (auth : Bool) → (if auth then Decision.Challenge value source else Decision.No source) ≡ Decision.Imply b → ⊥
+    no_value true e = absurd (cc)
+    no_value false e = absurd (cc)
 
-    of : (r : Bool) → (f.uid == 0) ≡ r → (y : Bool) → is_yes v.0 ≡ y → (g : Option GrantRow) → find (serves f.key a t) grants ≡ g → (o : Option Bytes) → least_text (implying past grants f t a) ≡ o
-        → (if r then Decision.Root else (if y then Decision.Yes v.1 else by_grant g o v.0 v.1)) ≡ Decision.Imply b → IsImplied past grants f t a v b
+    of : (r : Bool) → (f.uid == 0) ≡ r → (y : Bool) → is_yes value ≡ y → (g : Option GrantRow) → find (serves f.key a t) grants ≡ g → (o : Option Bytes) → least_text (implying past grants f t a) ≡ o
+        → (if r then Decision.Root else (if y then Decision.Yes source else by_grant g o value source)) ≡ Decision.Imply b → IsImplied past grants f t a value b
     of true r y is_y g is_g o is_o e = absurd (cc)
     of false r true y g is_g o is_o e = absurd (cc)
     of false r false y (Some g) is_g o is_o e = absurd (cc)
     of false r false y None g (Some b') o e =
         let same : b' ≡ b = cc in
-        record { user = other r; value = y; grant = g; implied = implying_back past grants f t a b (o ∙ ap Some same) }
-    of false r false y None g None o e = absurd (value (is_auth v.0) e)
+        record { user = other r; not_yes = y; grant = g; implied = implying_back past grants f t a b (o ∙ ap Some same) }
+    of false r false y None g None o e = absurd (no_value (is_auth value) e)
 
-pub implied_forth : (past : List Item) (grants : List GrantRow) (f : Facts) (t : ℕ) (a b : Bytes) (v : Implicit × RuleSource) → IsImplied past grants f t a v b → decided past grants f t a v ≡ Decision.Imply b
-implied_forth past grants f t a b v i =
-    ap (λ r. if r then Decision.Root else (if is_yes v.0 then Decision.Yes v.1 else by_grant (find (serves f.key a t) grants) (least_text (implying past grants f t a)) v.0 v.1)) (other (f.uid == 0) refl)
-    ∙ ap (λ y. if y then Decision.Yes v.1 else by_grant (find (serves f.key a t) grants) (least_text (implying past grants f t a)) v.0 v.1) i.value
-    ∙ ap (λ g. by_grant g (least_text (implying past grants f t a)) v.0 v.1) i.grant
-    ∙ ap (λ o. by_imply o v.0 v.1) (implying_forth past grants f t a b i.implied)
+pub implied_forth : (past : List Item) (grants : List GrantRow) (f : Facts) (t : ℕ) (a b : Bytes) (value : Implicit) (source : RuleSource) → IsImplied past grants f t a value b → decided past grants f t a (value, source) ≡ Decision.Imply b
+implied_forth past grants f t a b value source i =
+    ap (λ r. if r then Decision.Root else (if is_yes value then Decision.Yes source else by_grant (find (serves f.key a t) grants) (least_text (implying past grants f t a)) value source)) (other (f.uid == 0) refl)
+    ∙ ap (λ y. if y then Decision.Yes source else by_grant (find (serves f.key a t) grants) (least_text (implying past grants f t a)) value source) i.not_yes
+    ∙ ap (λ g. by_grant g (least_text (implying past grants f t a)) value source) i.grant
+    ∙ ap (λ o. by_imply o value source) (implying_forth past grants f t a b i.implied)
   where
     other : (r : Bool) → (f.uid == 0) ≡ r → r ≡ false
     other true is = absurd (i.user ((Decides-eqb f.uid 0).0 is))

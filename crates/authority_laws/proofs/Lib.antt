@@ -21,6 +21,7 @@ pub mod GrantNumbers
 pub mod OneHistory
 pub mod OneJournal
 pub mod CountedBytes
+pub mod CountedItems
 pub mod Tracing
 pub mod GreatestPair
 pub mod LeastId

@@ -1,4 +1,4 @@
--- The keys of agents, pending challenges and grants are listed in the world in force.
+-- The keys of agents, pending challenges and temporary authorizations are listed in the world in force.
 use Rattle.std.proofs.Common.{◌≡◌, ℕ, ◌==◌, Bool, true, false, ◌&&◌, ◌||◌, not, List, [], ◌∷◌, refl, ap, ◌∙◌, inl, inr, ◌⊎◌, Option, Some, None, subst}
 use Rattle.std.proofs.lemmas.Bool.Decides.{Decides-eqb}
 use Rattle.std.proofs.lemmas.Slice.Eq.{bytes_eq-Decides}
@@ -58,7 +58,7 @@ listed_step past i key e h = of i.loaded e
     of None e = h
     of (Some l) e = bool (lists_key l.world key) e
 
--- what is no load has no value
+-- what is not a load has no value
 pub unloaded : (past : List Item) (i : Item) → Follows past i → (e : Event) → i.entry.event ≡ e → is_load e ≡ false → i.loaded ≡ None
 unloaded past i follows e is out = of e i.loaded (subst (λ (e : Event). IsNumbered (loads past) e i.loaded) is follows.numbered) out
   where

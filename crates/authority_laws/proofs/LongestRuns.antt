@@ -4,7 +4,7 @@ use Rattle.std.specs.Prelude.{if◌then◌else◌}
 use Rattle.authority_model.specs.Words.{Bytes, is_blank, run_joined, words}
 use Rattle.authority_laws.specs.Longest.{AllBlank, IsRun, StartsBlank, HasWords}
 
--- the first byte of a text that has a word right at its front is no blank; so the blanks before the first word are none where the first byte is no blank
+-- the first byte of a text that has a word right at its front is not a blank; so no blanks come before the first word where the first byte is not a blank
 unblanked : (c : ℕ) (bytes gap rest : Bytes) → is_blank c ≡ false → (c ∷ bytes) ≡ gap ++ rest → AllBlank gap → (c ∷ bytes) ≡ rest
 unblanked c bytes [] rest is e blank = e
 unblanked c bytes (g ∷ gap) rest is e blank =
@@ -16,7 +16,7 @@ one_blank : (b : ℕ) (text : Bytes) (ws : List Bytes) → is_blank b ≡ true �
 one_blank b text [] is h = (is, h)
 one_blank b text (w ∷ ws) is h = (b ∷ h.0, h.1, ap (λ t. b ∷ t) h.2, (is, h.3), h.4, h.5, h.6)
 
--- one more byte before the words, which is no blank
+-- one more byte before the words, which is not a blank
 one_byte : (b : ℕ) (text : Bytes) (ws : List Bytes) → is_blank b ≡ false → HasWords text ws → HasWords (b ∷ text) (run_joined is_blank b text ws)
 one_byte b [] [] is h = ([], [], refl, tt, (is, tt), tt, tt)
 one_byte b [] (w ∷ ws) is h = absurd (empty h.0 h.1 w h.2 h.4)
@@ -45,12 +45,12 @@ words_are (b ∷ text) = of (is_blank b) refl (words_are text)
     of true is ih = one_blank b text (words text) is ih
     of false is ih = one_byte b text (words text) is ih
 
--- blanks in front change nothing
+-- blanks at the front change nothing
 words_blank : (gap rest : Bytes) → AllBlank gap → words (gap ++ rest) ≡ words rest
 words_blank [] rest blank = refl
 words_blank (g ∷ gap) rest blank = ap (λ t. if t then words (gap ++ rest) else run_joined is_blank g (gap ++ rest) (words (gap ++ rest))) blank.0 ∙ words_blank gap rest blank.1
 
--- a run in front, with a blank or the end behind it, is the first word
+-- a run at the front, with a blank or the end after it, is the first word
 words_run : (w rest : Bytes) → IsRun w → StartsBlank rest → words (w ++ rest) ≡ w ∷ words rest
 words_run [] rest run starts = absurd run
 words_run (b ∷ []) rest run starts = ap (λ t. if t then words rest else run_joined is_blank b rest (words rest)) run.0 ∙ alone rest starts (words rest) refl

@@ -13,7 +13,7 @@ use Rattle.authority_model.specs.Lists.{Has, AtMostOne, or_else}
 use Rattle.authority_model.specs.declared.message.Message.{Message}
 use Rattle.authority_model.specs.Admins.{allowed}
 use Rattle.authority_model.specs.Items.{sent, count_to, world_of, policy_of}
-use Rattle.authority_model.specs.Challenges.{pending, opened, opened_count, closes, with_answer, begun_in, with_id}
+use Rattle.authority_model.specs.Challenges.{Begun, pending, opened, opened_count, closes, with_answer, begun_in, with_id}
 use Rattle.authority_model.specs.Answers.{begin_to}
 use Rattle.authority_model.specs.Legal.{Legal, Follows}
 use Rattle.authority_model.proofs.Cases.{both, filter_has, map_has, append_has}
@@ -41,7 +41,7 @@ each_pending P opens stays (i ∷ past) legal ch h = of (each_pending P opens st
         subst (P (i ∷ past)) old.2 (stays past i old.0 legal (ih old.0 there.0) (not_true (closes past old.0 i) there.1))
     of ih (inr h) = new (opened past i) refl h
 
--- Where none that is pending passes a test with a new one, at most one passes. This may rest on what holds of a history whose longer ones it holds of.
+-- Where no pending challenge passes a test together with a new one, at most one passes. This may rest on what holds of a history wherever it holds of a longer one.
 one_pending_where : (Q : List Item → Type 0) → ((past : List Item) (i : Item) → Q (i ∷ past) → Q past)
     → (test : Pending → Bool) → ((past : List Item) (i : Item) (ch : Pending) → test (with_answer past i ch) ≡ test ch)
     → ((past : List Item) (i : Item) (ch : Pending) → Legal (i ∷ past) → Q past → opened past i ≡ Some ch → test ch ≡ true → (c : Pending) → Has (pending past) c → test c ≡ false)
@@ -80,8 +80,8 @@ pending_step test same past one i =
 self_count : (c : ℕ) (m : Message) → count_to c (record { to = c; message = m } ∷ []) ≡ 1
 self_count c m = ap (λ b. (if b then 1 else 0) + 0) ((Decides-eqb c c).1 refl)
 
-first_of : {A B : Type 0} (b : A × B) (x : A) (y : B) → Some b ≡ Some (x, y) → b.0 ≡ x
-first_of b x y e = cc
+same_cookie : (b x : Begun) → Some b ≡ Some x → b.cookie ≡ x.cookie
+same_cookie b x e = cc
 
 -- no pending challenge has a serial that its agent was not sent yet
 pub serial_sent : (past : List Item) → Legal past → (ch : Pending) → Has (pending past) ch → ch.agent_serial ≤ sent past ch.agent
@@ -102,8 +102,9 @@ pub new_cookie : (past : List Item) (i : Item) (ch : Pending) → Follows past i
 new_cookie past i ch follows e =
     let o = opening past i ch e in
     let a = asked past i ch follows o in
-    let same : Some o.b ≡ Some (record { serial = opened_count past + 1; salt = i.entry.salt }, allowed (world_of past) (policy_of past).admins o.v.0 o.f.uid) = sym o.begins ∙ ap begun_in a.outputs in
-    subst (λ (ch : Pending). ch.cookie.serial ≡ opened_count past + 1) o.whole (ap (λ (c : Cookie). c.serial) (first_of o.b (record { serial = opened_count past + 1; salt = i.entry.salt }) (allowed (world_of past) (policy_of past).admins o.v.0 o.f.uid) same))
+    let due : Begun = record { cookie = record { serial = opened_count past + 1; salt = i.entry.salt }; identities = allowed (world_of past) (policy_of past).admins o.v.0 o.f.uid } in
+    let same : Some o.b ≡ Some due = sym o.begins ∙ ap begun_in a.outputs in
+    subst (λ (ch : Pending). ch.cookie.serial ≡ opened_count past + 1) o.whole (ap (λ (c : Cookie). c.serial) (same_cookie o.b due same))
 
 -- no pending challenge has a cookie that was not given yet
 pub cookie_given : (past : List Item) → Legal past → (ch : Pending) → Has (pending past) ch → ch.cookie.serial ≤ opened_count past

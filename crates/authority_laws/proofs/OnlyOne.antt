@@ -17,7 +17,7 @@ find_append {A} test (x ∷ xs) ys = go (test x) (find_append test xs ys)
     go true ih = refl
     go false ih = ih
 
--- a search behind a filter, where at most one passes
+-- a search after a filter, where at most one passes
 pub find_filter : {A : Type 0} (test out : A → Bool) (xs : List A) → AtMostOne test xs → find test (filter (λ x. not (out x)) xs) ≡ unless out (find test xs)
 find_filter test out [] one = refl
 find_filter {A} test out (x ∷ xs) one = go (test x) (out x) refl refl (find_filter test out xs one.1)

@@ -2,10 +2,8 @@
 use Rattle.std.proofs.Common.{◌≡◌, ℕ, false, List, ap, ◌∙◌, Some, is_some, subst}
 use Rattle.pk_types.specs.declared.values.Pair.{Pair}
 use Rattle.pk_types.specs.declared.values.Implicit.{Implicit}
-use Rattle.pk_types.specs.declared.values.Identity.{Identity}
 use Rattle.authority_model.specs.declared.pending.Agent.{Agent}
 use Rattle.authority_model.specs.declared.event.Call.{Call}
-use Rattle.authority_model.specs.declared.verdict.Cookie.{Cookie}
 use Rattle.authority_model.specs.declared.event.Event.TheVariants.{Call as Called}
 use Rattle.authority_model.specs.declared.pending.Pending.{Pending}
 use Rattle.authority_model.specs.declared.verdict.RuleSource.{RuleSource}
@@ -16,7 +14,7 @@ use Rattle.authority_model.specs.Items.{implicit_for}
 use Rattle.authority_model.specs.Subjects.{facts}
 use Rattle.authority_model.specs.Peers.{uid_of}
 use Rattle.authority_model.specs.Agents.{agent_for}
-use Rattle.authority_model.specs.Challenges.{Question, question_in, begun_in, opened, opened_at, opened_with, opened_for, opened_by, opened_to, challenge_of, with_id}
+use Rattle.authority_model.specs.Challenges.{Question, Begun, question_in, begun_in, opened, opened_at, opened_with, opened_for, opened_by, opened_to, challenge_of, with_id}
 use Rattle.authority_model.specs.Answers.{ask}
 use Rattle.authority_model.specs.Legal.{Follows}
 use Rattle.authority_model.proofs.Cases.{map_some, then_some}
@@ -29,7 +27,7 @@ pub record Opening (past : List Item) (i : Item) (ch : Pending) : Type 0 where
   pub details : List Pair
   pub flags : ℕ
   pub event : i.entry.event ≡ Called q.serial q.quiet (Call.Check q.subject q.action details flags q.cancel)
-  pub b : Cookie × List Identity
+  pub b : Begun
   pub begins : begun_in i.entry.outputs ≡ Some b
   pub f : Facts
   pub facts_are : facts past q.subject ≡ Some f

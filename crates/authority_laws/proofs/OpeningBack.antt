@@ -1,8 +1,6 @@
 -- An item opens a challenge where the sentence of looking back says so.
 use Rattle.std.proofs.Common.{◌≡◌, ℕ, ◌+◌, List, [], ◌∷◌, refl, ap, sym, ◌∙◌, inl, inr, Option, Some, None, subst}
 use Rattle.std.specs.Prelude.{option_map, option_and_then}
-use Rattle.pk_types.specs.declared.values.Identity.{Identity}
-use Rattle.authority_model.specs.declared.verdict.Cookie.{Cookie}
 use Rattle.authority_model.specs.declared.journal.Item.{Item}
 use Rattle.authority_model.specs.declared.message.Output.{Output}
 use Rattle.authority_model.specs.declared.pending.Pending.{Pending}
@@ -10,7 +8,7 @@ use Rattle.authority_model.specs.Lists.{or_else}
 use Rattle.authority_model.specs.Admins.{allowed}
 use Rattle.authority_model.specs.Items.{sent, count_to, world_of, policy_of}
 use Rattle.authority_model.specs.Peers.{uid_of}
-use Rattle.authority_model.specs.Challenges.{Question, question_in, begun, begun_in, opened, opened_count, opened_at, opened_with, opened_for, opened_by, opened_to, challenge_of}
+use Rattle.authority_model.specs.Challenges.{Question, Begun, question_in, begun, begun_in, opened, opened_count, opened_at, opened_with, opened_for, opened_by, opened_to, challenge_of}
 use Rattle.authority_model.specs.Answers.{begin_to}
 use Rattle.authority_model.specs.Legal.{Follows}
 use Rattle.authority_model.specs.Licensed.{Asks, NthTo}
@@ -18,8 +16,8 @@ use Rattle.authority_model.specs.LookBack.{Opens}
 use Rattle.authority_laws.proofs.Asking.{outputs_ask}
 use Rattle.authority_laws.proofs.Opening.{opening, asked}
 
-second_of : {A B : Type 0} (b : A × B) (x : A) (y : B) → Some b ≡ Some (x, y) → b.1 ≡ y
-second_of b x y e = cc
+same_identities : (b x : Begun) → Some b ≡ Some x → b.identities ≡ x.identities
+same_identities b x e = cc
 
 -- the item opened the challenge
 abbrev pub Began : List Item → Item → Pending → Type 0
@@ -32,7 +30,8 @@ began past i ch follows e =
     let a = asked past i ch follows p in
     let begin : Output = begin_to past i.entry.salt p.f p.a a.action p.v.0 a.details in
     let begins : begun begin.message ≡ Some p.b = sym (ap begun_in a.outputs) ∙ p.begins in
-    let offered : p.b.1 ≡ allowed (world_of past) (policy_of past).admins p.v.0 p.f.uid = second_of p.b (record { serial = opened_count past + 1; salt = i.entry.salt }) (allowed (world_of past) (policy_of past).admins p.v.0 p.f.uid) (sym begins) in
+    let due : Begun = record { cookie = record { serial = opened_count past + 1; salt = i.entry.salt }; identities = allowed (world_of past) (policy_of past).admins p.v.0 p.f.uid } in
+    let offered : p.b.identities ≡ allowed (world_of past) (policy_of past).admins p.v.0 p.f.uid = same_identities p.b due (sym begins) in
     subst (Began past i) p.whole (record {
       subject = p.q.subject;
       check = record { caller = refl; quiet = p.q.quiet; details = p.details; flags = p.flags; cancel = p.q.cancel; event = p.event };
@@ -46,7 +45,7 @@ began past i ch follows e =
       agent_is = p.agent_is;
       agent_caller = refl;
       begin = begin;
-      identities = p.b.1;
+      identities = p.b.identities;
       begins = begins;
       placed = subst (NthTo p.a.caller (sent past p.a.caller) (sent past p.a.caller + 1) begin) (sym a.outputs) (inl (refl, refl, refl));
       offered_are = offered;
@@ -82,13 +81,13 @@ opens_is past i o follows e =
       placed = subst (NthTo p.a.caller (sent past p.a.caller) (sent past p.a.caller + 1) begin) (sym a.outputs) (inl (refl, refl, refl));
     })
 
--- outputs among which a Begin stands have a first one
-begin_found : (outputs : List Output) (c n k : ℕ) (o : Output) (x : Cookie × List Identity) → NthTo c n k o outputs → begun o.message ≡ Some x → (y : Cookie × List Identity) × (begun_in outputs ≡ Some y)
+-- outputs that have a Begin have a first one
+begin_found : (outputs : List Output) (c n k : ℕ) (o : Output) (x : Begun) → NthTo c n k o outputs → begun o.message ≡ Some x → (y : Begun) × (begun_in outputs ≡ Some y)
 begin_found [] c n k o x h e = absurd h
 begin_found (p ∷ outputs) c n k o x (inl h) e = (x, ap (λ m. or_else m (begun_in outputs)) (ap (λ (p : Output). begun p.message) h.0 ∙ e))
 begin_found (p ∷ outputs) c n k o x (inr h) e = of (begun p.message) (begin_found outputs c (n + count_to c (p ∷ [])) k o x h e)
   where
-    of : (m : Option (Cookie × List Identity)) → (y : Cookie × List Identity) × (begun_in outputs ≡ Some y) → (y : Cookie × List Identity) × (or_else m (begun_in outputs) ≡ Some y)
+    of : (m : Option Begun) → (y : Begun) × (begun_in outputs ≡ Some y) → (y : Begun) × (or_else m (begun_in outputs) ≡ Some y)
     of None ih = ih
     of (Some y) ih = (y, refl)
 
@@ -100,22 +99,22 @@ only_one c n k o p (inr h) = absurd h
 pub is_opened : (past : List Item) (i : Item) (o : Pending) → Follows past i → Opens past i o → opened past i ≡ Some o
 is_opened past i o follows g =
     let q : Question = record { serial = o.serial; quiet = o.quiet; subject = g.subject; action = o.action; cancel = o.cancel } in
-    let first = begin_found i.entry.outputs o.agent (sent past o.agent) o.agent_serial g.begin (o.cookie, o.identities) g.placed g.begins in
+    let first = begin_found i.entry.outputs o.agent (sent past o.agent) o.agent_serial g.begin (record { cookie = o.cookie; identities = o.identities }) g.placed g.begins in
     let asks = outputs_ask past i follows q first.0 g.details g.flags g.event first.1 in
     let out : Output = begin_to past i.entry.salt asks.f asks.agent asks.a asks.value asks.details in
     let one = only_one o.agent (sent past o.agent) o.agent_serial g.begin out (subst (NthTo o.agent (sent past o.agent) o.agent_serial g.begin) asks.outputs_are g.placed) in
-    let begins : begun_in i.entry.outputs ≡ Some (o.cookie, o.identities) = ap begun_in asks.outputs_are ∙ ap (λ (p : Output). begun p.message) one.0 ∙ g.begins in
+    let begins : begun_in i.entry.outputs ≡ Some (record { cookie = o.cookie; identities = o.identities }) = ap begun_in asks.outputs_are ∙ ap (λ (p : Output). begun p.message) one.0 ∙ g.begins in
     ap (λ e. option_and_then (opened_at past i) (question_in e)) g.event
     ∙ ap (option_and_then (opened_with past i q)) begins
-    ∙ ap (option_and_then (opened_for past i q (o.cookie, o.identities))) g.facts_are
-    ∙ ap (option_and_then (opened_by past i q (o.cookie, o.identities) g.f)) g.value_is
-    ∙ ap (option_and_then (opened_to past i q (o.cookie, o.identities) g.f (o.value, o.source))) g.agent_is
-    ∙ ap (option_map (challenge_of past i q (o.cookie, o.identities) g.f (o.value, o.source) g.agent)) (ap (uid_of past) g.asker ∙ g.asker_uid)
+    ∙ ap (option_and_then (opened_for past i q (record { cookie = o.cookie; identities = o.identities }))) g.facts_are
+    ∙ ap (option_and_then (opened_by past i q (record { cookie = o.cookie; identities = o.identities }) g.f)) g.value_is
+    ∙ ap (option_and_then (opened_to past i q (record { cookie = o.cookie; identities = o.identities }) g.f (o.value, o.source))) g.agent_is
+    ∙ ap (option_map (challenge_of past i q (record { cookie = o.cookie; identities = o.identities }) g.f (o.value, o.source) g.agent)) (ap (uid_of past) g.asker ∙ g.asker_uid)
     ∙ ap Some (whole one.1)
   where
-    whole : sent past o.agent + 1 ≡ o.agent_serial → challenge_of past i (record { serial = o.serial; quiet = o.quiet; subject = g.subject; action = o.action; cancel = o.cancel }) (o.cookie, o.identities) g.f (o.value, o.source) g.agent o.asker_uid ≡ o
+    whole : sent past o.agent + 1 ≡ o.agent_serial → challenge_of past i (record { serial = o.serial; quiet = o.quiet; subject = g.subject; action = o.action; cancel = o.cancel }) (record { cookie = o.cookie; identities = o.identities }) g.f (o.value, o.source) g.agent o.asker_uid ≡ o
     whole serial =
-        ap (λ n. record (challenge_of past i (record { serial = o.serial; quiet = o.quiet; subject = g.subject; action = o.action; cancel = o.cancel }) (o.cookie, o.identities) g.f (o.value, o.source) g.agent o.asker_uid) { entry = n }) (sym g.entry_is)
+        ap (λ n. record (challenge_of past i (record { serial = o.serial; quiet = o.quiet; subject = g.subject; action = o.action; cancel = o.cancel }) (record { cookie = o.cookie; identities = o.identities }) g.f (o.value, o.source) g.agent o.asker_uid) { entry = n }) (sym g.entry_is)
         ∙ ap (λ c. record o { asker = c; key = g.f.key; agent = g.agent.caller; agent_serial = sent past g.agent.caller + 1; agent_key = g.agent.key; agent_path = g.agent.path; answered = None }) g.asker
         ∙ ap (λ k. record o { key = k; agent = g.agent.caller; agent_serial = sent past g.agent.caller + 1; agent_key = g.agent.key; agent_path = g.agent.path; answered = None }) g.key_is
         ∙ ap (λ c. record o { agent = c; agent_serial = sent past c + 1; agent_key = g.agent.key; agent_path = g.agent.path; answered = None }) g.agent_caller

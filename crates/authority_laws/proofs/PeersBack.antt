@@ -6,6 +6,7 @@ use Rattle.std.specs.Option.{option_map_or}
 use Rattle.authority_model.specs.declared.event.Call.{Call}
 use Rattle.authority_model.specs.declared.event.Event.{Event}
 use Rattle.authority_model.specs.declared.journal.Item.{Item}
+use Rattle.authority_model.specs.declared.process_id.ProcessId.{ProcessId}
 use Rattle.authority_model.specs.declared.world.Process.{Process as ProcessRow}
 use Rattle.authority_model.specs.Lists.{or_else, when}
 use Rattle.authority_model.specs.Worlds.{process_row}
@@ -76,72 +77,71 @@ pub live_forth : (past : List Item) (c : ℕ) → IsLive past c → live past c 
 live_forth past c l = ap (λ xs. live xs c) l.parts ∙ live_stays l.later l.i l.before c l.uid l.connects l.first l.stays
 
 -- an accepted announcement, as the sentence says it, and back
-announces_is : (past : List Item) (i : Item) (c pid start : ℕ) → announces past c i ≡ Some (pid, start) → Announces past i c pid start
-announces_is past i c pid start e =
-    let p = then_some (λ (p : ℕ × ℕ). when (is_by c i && accepts_announce past c p.0 p.1) p) (option_and_then process_named (call_in i.entry.event)) (pid, start) e in
-    let w = when_some (is_by c i && accepts_announce past c p.0.0 p.0.1) p.0 (pid, start) p.2 in
-    let call = then_some process_named (call_in i.entry.event) p.0 p.1 in
-    let parts = both (is_by c i) (accepts_announce past c p.0.0 p.0.1) w.0 in
-    of call.0 call.1 (call.2 ∙ ap Some w.1) parts.0 (subst (λ (q : ℕ × ℕ). accepts_announce past c q.0 q.1 ≡ true) w.1 parts.1)
+announces_is : (past : List Item) (i : Item) (c : ℕ) (p : ProcessId) → announces past c i ≡ Some p → Announces past i c p
+announces_is past i c p e =
+    let q = then_some (λ (q : ProcessId). when (is_by c i && accepts_announce past c q.pid q.start) q) (option_and_then process_named (call_in i.entry.event)) p e in
+    let w = when_some (is_by c i && accepts_announce past c q.0.pid q.0.start) q.0 p q.2 in
+    let call = then_some process_named (call_in i.entry.event) q.0 q.1 in
+    let parts = both (is_by c i) (accepts_announce past c q.0.pid q.0.start) w.0 in
+    of call.0 call.1 (call.2 ∙ ap Some w.1) parts.0 (subst (λ (r : ProcessId). accepts_announce past c r.pid r.start ≡ true) w.1 parts.1)
   where
     row : (o : Option ProcessRow) → option_map_or (λ p. may_for past c p.uid) o false ≡ true → (p : ProcessRow) × (o ≡ Some p) × (may_for past c p.uid ≡ true)
     row None e = absurd (cc)
     row (Some p) e = (p, refl, e)
 
-    of : (call : Call) → call_in i.entry.event ≡ Some call → process_named call ≡ Some (pid, start) → is_by c i ≡ true → accepts_announce past c pid start ≡ true → Announces past i c pid start
-    of (Call.Announce pid' start') is e by accepts =
-        let shape = call_is i.entry.event (Call.Announce pid' start') is in
-        let same : (pid', start') ≡ (pid, start) = cc e in
-        let a : pid' ≡ pid = ap (λ (p : ℕ × ℕ). p.0) same in
-        let b : start' ≡ start = ap (λ (p : ℕ × ℕ). p.1) same in
-        let parts = both (live past c) (option_map_or (λ p. may_for past c p.uid) (process_row (world_of past) pid start) false) accepts in
-        let r = row (process_row (world_of past) pid start) parts.1 in
-        record { caller = (Decides-eqb i.entry.caller c).0 by; serial = shape.0; quiet = shape.1; event = shape.2 ∙ ap (λ p. Event.Call shape.0 shape.1 (Call.Announce p start')) a ∙ ap (λ s. Event.Call shape.0 shape.1 (Call.Announce pid s)) b; lives = parts.0; row = r.0; listed = r.1; may = r.2 }
+    of : (call : Call) → call_in i.entry.event ≡ Some call → process_named call ≡ Some p → is_by c i ≡ true → accepts_announce past c p.pid p.start ≡ true → Announces past i c p
+    of (Call.Announce pid start) is e by accepts =
+        let shape = call_is i.entry.event (Call.Announce pid start) is in
+        let made : ProcessId = record { pid = pid; start = start } in
+        let same : made ≡ p = cc e in
+        let parts = both (live past c) (option_map_or (λ row. may_for past c row.uid) (process_row (world_of past) p.pid p.start) false) accepts in
+        let r = row (process_row (world_of past) p.pid p.start) parts.1 in
+        record { caller = (Decides-eqb i.entry.caller c).0 by; serial = shape.0; quiet = shape.1; event = shape.2 ∙ ap (λ (q : ProcessId). Event.Call shape.0 shape.1 (Call.Announce q.pid q.start)) same; lives = parts.0; row = r.0; listed = r.1; may = r.2 }
     of _ is e by accepts = absurd (cc)
 
-is_announces : (past : List Item) (i : Item) (c pid start : ℕ) → Announces past i c pid start → announces past c i ≡ Some (pid, start)
-is_announces past i c pid start g =
-    ap (λ e. option_and_then (λ (p : ℕ × ℕ). when (is_by c i && accepts_announce past c p.0 p.1) p) (option_and_then process_named (call_in e))) g.event
-    ∙ ap (λ b. when (b && accepts_announce past c pid start) (pid, start)) ((Decides-eqb i.entry.caller c).1 g.caller)
-    ∙ ap (λ b. when (b && option_map_or (λ p. may_for past c p.uid) (process_row (world_of past) pid start) false) (pid, start)) g.lives
-    ∙ ap (λ o. when (option_map_or (λ p. may_for past c p.uid) o false) (pid, start)) g.listed
-    ∙ ap (λ b. when b (pid, start)) g.may
+is_announces : (past : List Item) (i : Item) (c : ℕ) (p : ProcessId) → Announces past i c p → announces past c i ≡ Some p
+is_announces past i c p g =
+    ap (λ e. option_and_then (λ (q : ProcessId). when (is_by c i && accepts_announce past c q.pid q.start) q) (option_and_then process_named (call_in e))) g.event
+    ∙ ap (λ b. when (b && accepts_announce past c p.pid p.start) p) ((Decides-eqb i.entry.caller c).1 g.caller)
+    ∙ ap (λ b. when (b && option_map_or (λ row. may_for past c row.uid) (process_row (world_of past) p.pid p.start) false) p) g.lives
+    ∙ ap (λ o. when (option_map_or (λ row. may_for past c row.uid) o false) p) g.listed
+    ∙ ap (λ b. when b p) g.may
 
 -- the last item that announces names this process
-pub record LastNames (past : List Item) (c pid start : ℕ) : Type 0 where
+pub record LastNames (past : List Item) (c : ℕ) (p : ProcessId) : Type 0 where
   pub later : List Item
   pub i : Item
   pub before : List Item
   pub parts : past ≡ later ++ i ∷ before
-  pub announces : Announces before i c pid start
+  pub announces : Announces before i c p
   pub last : NoneAnnounces later (i ∷ before) c
 
-last_back : (past : List Item) (c pid start : ℕ) → last_announced past c ≡ Some (pid, start) → LastNames past c pid start
-last_back [] c pid start e = absurd (cc)
-last_back (i ∷ past) c pid start e = of (announces past c i) refl e (last_back past c pid start)
+last_back : (past : List Item) (c : ℕ) (p : ProcessId) → last_announced past c ≡ Some p → LastNames past c p
+last_back [] c p e = absurd (cc)
+last_back (i ∷ past) c p e = of (announces past c i) refl e (last_back past c p)
   where
-    of : (o : Option (ℕ × ℕ)) → announces past c i ≡ o → or_else o (last_announced past c) ≡ Some (pid, start) → (last_announced past c ≡ Some (pid, start) → LastNames past c pid start) → LastNames (i ∷ past) c pid start
-    of (Some p) is e ih = record { later = []; i = i; before = past; parts = refl; announces = announces_is past i c pid start (is ∙ e); last = tt }
+    of : (o : Option ProcessId) → announces past c i ≡ o → or_else o (last_announced past c) ≡ Some p → (last_announced past c ≡ Some p → LastNames past c p) → LastNames (i ∷ past) c p
+    of (Some q) is e ih = record { later = []; i = i; before = past; parts = refl; announces = announces_is past i c p (is ∙ e); last = tt }
     of None is e ih =
         let f = ih e in
         let none : announces (f.later ++ f.i ∷ f.before) c i ≡ None = subst (λ xs. announces xs c i ≡ None) f.parts is in
-        record { later = i ∷ f.later; i = f.i; before = f.before; parts = ap (λ xs. i ∷ xs) f.parts; announces = f.announces; last = ((λ p s a. absurd (cc (is_announces (f.later ++ f.i ∷ f.before) i c p s a, none))), f.last) }
+        record { later = i ∷ f.later; i = f.i; before = f.before; parts = ap (λ xs. i ∷ xs) f.parts; announces = f.announces; last = ((λ q a. absurd (cc (is_announces (f.later ++ f.i ∷ f.before) i c q a, none))), f.last) }
 
-last_stays : (later : List Item) (i : Item) (before : List Item) (c pid start : ℕ) → Announces before i c pid start → NoneAnnounces later (i ∷ before) c → last_announced (later ++ i ∷ before) c ≡ Some (pid, start)
-last_stays [] i before c pid start a none = ap (λ o. or_else o (last_announced before c)) (is_announces before i c pid start a)
-last_stays (j ∷ later) i before c pid start a none = of (announces (later ++ i ∷ before) c j) refl (last_stays later i before c pid start a none.1)
+last_stays : (later : List Item) (i : Item) (before : List Item) (c : ℕ) (p : ProcessId) → Announces before i c p → NoneAnnounces later (i ∷ before) c → last_announced (later ++ i ∷ before) c ≡ Some p
+last_stays [] i before c p a none = ap (λ o. or_else o (last_announced before c)) (is_announces before i c p a)
+last_stays (j ∷ later) i before c p a none = of (announces (later ++ i ∷ before) c j) refl (last_stays later i before c p a none.1)
   where
-    of : (o : Option (ℕ × ℕ)) → announces (later ++ i ∷ before) c j ≡ o → last_announced (later ++ i ∷ before) c ≡ Some (pid, start) → or_else o (last_announced (later ++ i ∷ before) c) ≡ Some (pid, start)
+    of : (o : Option ProcessId) → announces (later ++ i ∷ before) c j ≡ o → last_announced (later ++ i ∷ before) c ≡ Some p → or_else o (last_announced (later ++ i ∷ before) c) ≡ Some p
     of None is ih = ih
-    of (Some p) is ih = absurd (none.0 p.0 p.1 (announces_is (later ++ i ∷ before) j c p.0 p.1 is))
+    of (Some q) is ih = absurd (none.0 q (announces_is (later ++ i ∷ before) j c q is))
 
 -- the announced process is the last one
-pub announced_back : (past : List Item) (c pid start : ℕ) → announced past c ≡ Some (pid, start) → IsAnnounced past c pid start
-announced_back past c pid start e = of (live past c) refl e
+pub announced_back : (past : List Item) (c : ℕ) (p : ProcessId) → announced past c ≡ Some p → IsAnnounced past c p
+announced_back past c p e = of (live past c) refl e
   where
-    of : (b : Bool) → live past c ≡ b → (if b then last_announced past c else None) ≡ Some (pid, start) → IsAnnounced past c pid start
-    of true is e = let f = last_back past c pid start e in record { lives = is; later = f.later; i = f.i; before = f.before; parts = f.parts; announces = f.announces; last = f.last }
+    of : (b : Bool) → live past c ≡ b → (if b then last_announced past c else None) ≡ Some p → IsAnnounced past c p
+    of true is e = let f = last_back past c p e in record { lives = is; later = f.later; i = f.i; before = f.before; parts = f.parts; announces = f.announces; last = f.last }
     of false is e = absurd (cc)
 
-pub announced_forth : (past : List Item) (c pid start : ℕ) → IsAnnounced past c pid start → announced past c ≡ Some (pid, start)
-announced_forth past c pid start a = ap (λ b. if b then last_announced past c else None) a.lives ∙ ap (λ xs. last_announced xs c) a.parts ∙ last_stays a.later a.i a.before c pid start a.announces a.last
+pub announced_forth : (past : List Item) (c : ℕ) (p : ProcessId) → IsAnnounced past c p → announced past c ≡ Some p
+announced_forth past c p a = ap (λ b. if b then last_announced past c else None) a.lives ∙ ap (λ xs. last_announced xs c) a.parts ∙ last_stays a.later a.i a.before c p a.announces a.last

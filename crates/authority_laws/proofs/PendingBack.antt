@@ -31,7 +31,7 @@ pub record Stood (past : List Item) (ch : Pending) : Type 0 where
   pub stands : NoneOf (λ past j. closes past ch j) later (i ∷ before)
   pub first : FirstIs later (i ∷ before) ch.cookie ch.identities ch.answered
 
--- each pending challenge stood since it was opened
+-- each pending challenge was pending since it was opened
 pub all_stood : (past : List Item) → Legal past → (ch : Pending) → Has (pending past) ch → Stood past ch
 all_stood = each_pending Stood opens stays
   where
@@ -57,7 +57,7 @@ all_stood = each_pending Stood opens stays
         of None h (Some new) now = inr (h, subst (λ xs. IsResponse xs i ch.cookie ch.identities new) t.parts (answer_is past i ch new now))
         of None h None now = (λ id said. absurd (cc (answer_found past i ch id (subst (λ xs. IsResponse xs i ch.cookie ch.identities id) (sym t.parts) said))), h)
 
--- what is in the list, looking back finds
+-- looking back finds what is in the list
 pub pending_back : (past : List Item) → Legal past → (ch : Pending) → Has (pending past) ch → IsPending past (unanswered ch)
 pending_back past legal ch h = let t = all_stood past legal ch h in record { later = t.later; i = t.i; before = t.before; parts = t.parts; opens = t.opens; stands = t.stands }
 
@@ -76,7 +76,7 @@ pending_forth past legal o p =
     let r = stands_pending p.later p.i p.before o (subst Legal p.parts legal) p.opens p.stands in
     (r.0, subst (λ xs. Has (pending xs) r.0) (sym p.parts) r.1, r.2)
 
--- where the first answer stands
+-- the place of the first answer
 pub record FirstAt (later rest : List Item) (cookie : Cookie) (offered : List Identity) (identity : Identity) : Type 0 where
   pub after : List Item
   pub j : Item
@@ -113,7 +113,7 @@ first_unique [] j between rest cookie offered x y (inr h) none said = same_answe
 first_unique (z ∷ after) j between rest cookie offered x y (inl h) none said = first_unique after j between rest cookie offered x y h none said
 first_unique (z ∷ after) j between rest cookie offered x y (inr h) none said = absurd (no_answer_at after j between rest cookie offered y h.0 said)
 
--- a history is parted in one way behind so many items
+-- a history is parted in one way after so many items
 part_once : (later later' : List Item) (i i' : Item) (before before' : List Item) → later ++ i ∷ before ≡ later' ++ i' ∷ before' → length before ≡ length before' → (later ≡ later') × (i ≡ i') × (before ≡ before')
 part_once [] [] i i' before before' e n = (refl, cc e, cc e)
 part_once [] (x ∷ later') i i' before before' e n =

@@ -1,4 +1,4 @@
--- Live connections, pending challenges and grants stand in rising order.
+-- Live connections, pending challenges and temporary authorizations are in rising order.
 use Rattle.std.proofs.Common.{◌≡◌, ℕ, suc, zero, ◌+◌, ◌<◌, ◌≤◌, Bool, true, false, not, List, [], ◌∷◌, ◌++◌, length, refl, ap, sym, ◌∙◌, inl, inr, Option, Some, None, is_some, ◌⊎◌, subst, arith}
 use Rattle.std.proofs.lemmas.Bool.Decides.{Decides-eqb, Decides-ltb}
 use Rattle.std.proofs.lemmas.List.{append-nil, map-append}
@@ -202,7 +202,7 @@ places_rise (i ∷ past) =
 pub challenges_increase : (past : List Item) → IsStrictlyIncreasing (map (λ (ch : Pending). ch.entry) (pending past))
 challenges_increase past = increasing (map (λ (ch : Pending). ch.entry) (pending past)) (places_rise past).0
 
--- the numbers of grants rise
+-- the numbers of temporary authorizations rise
 numbers_rise : (past : List Item) → Legal past → Rises (map (λ (g : GrantRow). g.id) (kept past))
 numbers_rise [] legal = tt
 numbers_rise (i ∷ past) legal = rises_after (λ (g : GrantRow). g.id) (filter (λ g. not (ends_grant past g i)) (kept past)) (granted past i) (rises_left (λ (g : GrantRow). g.id) (λ g. not (ends_grant past g i)) (kept past) (numbers_rise past legal.1)) below

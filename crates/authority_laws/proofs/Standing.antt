@@ -1,4 +1,4 @@
--- What stands in a list, and tests that do not hold.
+-- What is in a list, and tests that do not hold.
 use Rattle.std.proofs.Common.{◌≡◌, Bool, true, false, ◌||◌, not, List, [], ◌∷◌, ◌++◌, refl, ap, sym, ◌∙◌, inl, inr, Option, Some, None, is_some}
 use Rattle.std.specs.Prelude.{if◌then◌else◌, filter, map}
 use Rattle.authority_model.specs.Lists.{Has, any_of}
@@ -13,7 +13,7 @@ pub not_true : (b : Bool) → not b ≡ true → b ≡ false
 not_true false e = refl
 not_true true e = absurd (cc)
 
--- what stands in one of two lists stands in both together
+-- what is in one of two lists is in both together
 pub has_left : {A : Type 0} (xs ys : List A) (y : A) → Has xs y → Has (xs ++ ys) y
 has_left [] ys y h = absurd h
 has_left (x ∷ xs) ys y (inl same) = inl same
@@ -23,7 +23,7 @@ pub has_right : {A : Type 0} (xs ys : List A) (y : A) → Has ys y → Has (xs +
 has_right [] ys y h = h
 has_right (x ∷ xs) ys y h = inr (has_right xs ys y h)
 
--- what passes stands in the filtered list
+-- what passes is in the filtered list
 pub filter_in : {A : Type 0} (test : A → Bool) (xs : List A) (y : A) → Has xs y → test y ≡ true → Has (filter test xs) y
 filter_in test [] y h t = absurd h
 filter_in {A} test (x ∷ xs) y h t = go (test x) refl h (λ h. filter_in test xs y h t)

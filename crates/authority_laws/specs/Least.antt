@@ -3,7 +3,6 @@ use Rattle.std.specs.Prelude.{ℕ, ◌≡◌, ◌⊎◌, true, false, List, None
 use Rattle.pk_types.specs.declared.values.Implicit.{Implicit}
 use Rattle.authority_model.specs.declared.journal.Item.{Item}
 use Rattle.authority_model.specs.declared.verdict.GrantRow.{GrantRow}
-use Rattle.authority_model.specs.declared.verdict.RuleSource.{RuleSource}
 use Rattle.authority_model.specs.Words.{Bytes, comes_before}
 use Rattle.authority_model.specs.Values.{is_yes}
 use Rattle.authority_model.specs.Facts.{Facts}
@@ -18,9 +17,9 @@ pub record IsLeastImplying (past : List Item) (grants : List GrantRow) (f : Fact
   pub may : MayImply past grants f t a b
   pub least : (c : Bytes) → MayImply past grants f t a c → (b ≡ c) ⊎ (comes_before b c ≡ true)
 
--- the id b decides: nothing that comes first does, and it is the least that may imply a
-pub record IsImplied (past : List Item) (grants : List GrantRow) (f : Facts) (t : ℕ) (a : Bytes) (v : Implicit × RuleSource) (b : Bytes) : Type 0 where
+-- the id b decides where the action a has this value: nothing that comes first does, and it is the least that may imply a
+pub record IsImplied (past : List Item) (grants : List GrantRow) (f : Facts) (t : ℕ) (a : Bytes) (value : Implicit) (b : Bytes) : Type 0 where
   pub user : f.uid ≡ 0 → ⊥
-  pub value : is_yes v.0 ≡ false
+  pub not_yes : is_yes value ≡ false
   pub grant : find (serves f.key a t) grants ≡ None
   pub implied : IsLeastImplying past grants f t a b

@@ -1,4 +1,4 @@
--- The words of a text, said by what stands before and behind each.
+-- The words of a text, said by what comes before and after each.
 use Rattle.std.specs.Prelude.{◌≡◌, ⊤, true, false, List, [], ◌∷◌, ◌++◌}
 use Rattle.authority_model.specs.Lists.{Each}
 use Rattle.authority_model.specs.Words.{Bytes, is_blank}
@@ -17,7 +17,7 @@ abbrev pub StartsBlank : Bytes → Type 0
 StartsBlank [] = ⊤
 StartsBlank (b ∷ bytes) = is_blank b ≡ true
 
--- A text has these words in this order: before each stand only blanks, and behind it a blank or the end. Behind the last word only blanks are left.
+-- A text has these words in this order: only blanks come before each, and a blank or the end comes after it. Only blanks come after the last word.
 abbrev pub HasWords : Bytes → List Bytes → Type 0
 HasWords text [] = AllBlank text
 HasWords text (w ∷ ws) = (gap : Bytes) × (rest : Bytes) × (text ≡ gap ++ (w ++ rest)) × AllBlank gap × IsRun w × StartsBlank rest × HasWords rest ws

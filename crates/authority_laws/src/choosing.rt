@@ -38,11 +38,11 @@ pub fn greatest_pair_decides()
 
 /// The action that implies another is the one with the least id, by bytes as Rust compares them,
 /// among those that list it and are allowed by themselves. It decides exactly where the user is not
-/// uid 0, the value is not yes and no grant serves.
+/// uid 0, the value is not yes and no temporary authorization serves.
 pub fn least_id_implies()
     ensures by_bytes { (a b : Bytes) → (comes_before a b ≡ true) ↔ (slice_cmp nat_cmp a b ≡ Less) }
     ensures found { (past : List Item) (grants : List GrantRow) (f : Facts) (t : ℕ) (a b : Bytes) → (least_text (implying past grants f t a) ≡ Some b) ↔ IsLeastImplying past grants f t a b }
-    ensures decides { (past : List Item) (grants : List GrantRow) (f : Facts) (t : ℕ) (a b : Bytes) (v : Implicit × RuleSource) → (decided past grants f t a v ≡ Decision.Imply b) ↔ IsImplied past grants f t a v b }
+    ensures decides { (past : List Item) (grants : List GrantRow) (f : Facts) (t : ℕ) (a b : Bytes) (value : Implicit) (source : RuleSource) → (decided past grants f t a (value, source) ≡ Decision.Imply b) ↔ IsImplied past grants f t a value b }
 {}
 
 /// The words of a text are its longest runs without blanks, each once and in order.

@@ -7,7 +7,7 @@ ghost use Rattle.authority_model.specs.Items.{items_of};
 ghost use Rattle.authority_model.specs.Legal.{IsLegal, Legal};
 ghost use Rattle.authority_model.specs.Given.{Given, IsHistoryOf, IsProper, history_of};
 
-/// For each list of callers, moments, random words, and events or loads there is exactly one legal
+/// For each list of callers, moments, salts, and events or loads there is exactly one legal
 /// history that has them, in this order, where each moment is the greatest handed in so far; and it
 /// is the history of exactly one legal journal.
 pub fn one_history()

@@ -1,9 +1,9 @@
 //! Laws about the definitions of `authority_model`, each the clause of a function that does
 //! nothing.
 //!
-//! Most laws speak of lists of items, the newest first, as the definitions see a history: each item is
-//! an entry of the journal with the load that it names. What stands behind an item is the history
-//! before it.
+//! Most laws speak of lists of items, the newest first, as the definitions see a history: each item
+//! is an entry of the journal with the load that it names. The items after it in the list are the
+//! history before it.
 #![tactic(auto)]
 
 mod choosing;
@@ -18,7 +18,7 @@ mod single;
 pub use choosing::{
     greatest_pair_decides, least_id_implies, own_place_comes_last, words_are_longest_runs,
 };
-pub use costs::outputs_are_counted;
+pub use costs::{items_are_counted, outputs_are_counted};
 pub use handed_in::one_history;
 pub use licence::every_yes_is_licensed;
 pub use listed::keys_are_listed;

@@ -12,8 +12,8 @@ ghost use Rattle.authority_model.specs.Challenges.{pending};
 ghost use Rattle.authority_model.specs.Grants.{kept};
 ghost use Rattle.authority_model.specs.Legal.{Legal};
 
-/// The process or session of each agent in force, of each pending challenge and of each grant
-/// stands in the world in force, with its user.
+/// The process or session of each agent in force, of each pending challenge and of each temporary
+/// authorization is listed in the world in force, with its user.
 pub fn keys_are_listed()
     ensures agents { (past : List Item) → Legal past → (a : Agent) → Has (in_force past) a → lists_key (world_of past) a.key ≡ true }
     ensures challenges { (past : List Item) → Legal past → (ch : Pending) → Has (pending past) ch → lists_key (world_of past) ch.key ≡ true }

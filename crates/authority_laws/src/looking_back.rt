@@ -6,6 +6,7 @@ ghost use Rattle.authority_model.specs.declared.journal.Item.{Item};
 ghost use Rattle.authority_model.specs.declared.key.Key.{Key};
 ghost use Rattle.authority_model.specs.declared.pending.Agent.{Agent};
 ghost use Rattle.authority_model.specs.declared.pending.Pending.{Pending};
+ghost use Rattle.authority_model.specs.declared.process_id.ProcessId.{ProcessId};
 ghost use Rattle.authority_model.specs.declared.verdict.GrantRow.{GrantRow};
 ghost use Rattle.authority_model.specs.Words.{Bytes};
 ghost use Rattle.authority_model.specs.Lists.{Has};
@@ -17,12 +18,12 @@ ghost use Rattle.authority_model.specs.Grants.{kept, made};
 ghost use Rattle.authority_model.specs.Legal.{Legal};
 ghost use Rattle.authority_model.specs.LookBack.{InForce, IsAnnounced, IsAnswered, IsLive, IsLiveGrant, IsPending, IsUid, MadeCount, unanswered};
 
-/// The user of a connection is that of its first Connect, it lives until it departs after that, and
+/// The user of a connection is that of its first Connect. It lives until it departs after that, and
 /// its process is the last that it announced with success.
 pub fn connections_found()
     ensures user { (past : List Item) (c uid : ℕ) → (uid_of past c ≡ Some uid) ↔ IsUid past c uid }
     ensures life { (past : List Item) (c : ℕ) → (live past c ≡ true) ↔ IsLive past c }
-    ensures process { (past : List Item) (c pid start : ℕ) → (announced past c ≡ Some (pid, start)) ↔ IsAnnounced past c pid start }
+    ensures process { (past : List Item) (c : ℕ) (p : ProcessId) → (announced past c ≡ Some p) ↔ IsAnnounced past c p }
 {}
 
 /// An agent is in force where some call registered it, while its subject had no other agent, and
@@ -42,13 +43,14 @@ pub fn answers_found()
     ensures found { (past : List Item) → Legal past → (ch : Pending) → Has (pending past) ch → (identity : Identity) → (ch.answered ≡ Some identity) ↔ IsAnswered past (unanswered ch) identity }
 {}
 
-/// A grant is live where the return of an answered challenge made it less than 300 seconds ago, and
-/// nothing ended it since.
+/// A temporary authorization is live where the return of an answered challenge made it less than
+/// 300 seconds ago, and nothing ended it since.
 pub fn grants_found()
     ensures found { (past : List Item) → Legal past → (number : ℕ) (key : Key) (action : Bytes) (t : ℕ) → ((row : GrantRow) × Has (kept past) row × (serves key action t row ≡ true) × (row.id ≡ number)) ↔ IsLiveGrant past number key action t }
 {}
 
-/// The number of a grant counts the grants that were made before it.
+/// The number of a temporary authorization counts the temporary authorizations that were made
+/// before it.
 pub fn grants_counted()
     ensures counted { (past : List Item) → Legal past → (n : ℕ) → (n ≡ made past) ↔ MadeCount past n }
 {}

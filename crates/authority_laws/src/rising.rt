@@ -1,4 +1,4 @@
-// Lists that stand in rising order.
+// Lists that are in rising order.
 ghost use Rattle.std.specs.Prelude.{ℕ, ◌≡◌, ◌↔◌, true, List, map};
 ghost use Rattle.std.specs.List.Sorted.{IsStrictlyIncreasing};
 ghost use Rattle.authority_model.specs.declared.journal.Item.{Item};
@@ -14,13 +14,14 @@ pub fn live_connections_listed()
     ensures rising { (past : List Item) → IsStrictlyIncreasing (live_connections past) }
 {}
 
-/// The pending challenges stand in the order in which they were opened: the places of the checks
-/// that opened them rise.
+/// The pending challenges are in the order in which they were opened: the places of the checks that
+/// opened them rise.
 pub fn challenges_rise()
     ensures rising { (past : List Item) → IsStrictlyIncreasing (map (λ ch. ch.entry) (pending past)) }
 {}
 
-/// The grants stand by rising number, so the first that a search finds has the least number.
+/// The temporary authorizations come by rising number, so the first that a search finds has the
+/// least number.
 pub fn grants_rise()
     ensures rising { (past : List Item) → Legal past → IsStrictlyIncreasing (map (λ g. g.id) (kept past)) }
 {}

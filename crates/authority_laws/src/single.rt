@@ -29,7 +29,7 @@ pub fn one_challenge_found()
     ensures by_cancellation { (past : List Item) → Legal past → (c : ℕ) (id : Bytes) → is_empty id ≡ false → AtMostOne (λ ch. (ch.asker == c) && bytes_eq ch.cancel id) (pending past) }
 {}
 
-/// A number names at most one grant.
+/// A number names at most one temporary authorization.
 pub fn one_grant_a_number()
     ensures by_number { (past : List Item) → Legal past → (n : ℕ) → AtMostOne (λ g. g.id == n) (kept past) }
 {}

@@ -13,6 +13,7 @@ pub mod ExpiredExamples
 pub mod Cases
 pub mod Pairing
 pub mod LastLoad
+pub mod Counting
 pub mod FirstPlace
 pub mod Fronts
 pub mod Endings

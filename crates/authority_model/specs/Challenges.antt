@@ -27,13 +27,18 @@ use Rattle.authority_model.specs.Subjects.{facts}
 use Rattle.authority_model.specs.Agents.{agent_for, unregisters, unlists}
 use Rattle.authority_model.specs.Cookies.{cookie_text}
 
--- what a Begin tells: its cookie and who may answer
-abbrev pub begun : Message → Option (Cookie × List Identity)
-begun (Begin path action text icon details cookie identities) = Some (cookie, identities)
+-- What a Begin tells: its cookie and who may answer.
+pub record Begun : Type 0 where
+  pub cookie : Cookie
+  pub identities : List Identity
+
+-- what a message tells, if it is a Begin
+abbrev pub begun : Message → Option Begun
+begun (Begin path action text icon details cookie identities) = Some (record { cookie = cookie; identities = identities })
 begun _ = None
 
 -- the same of the first Begin among outputs
-abbrev pub begun_in : List Output → Option (Cookie × List Identity)
+abbrev pub begun_in : List Output → Option Begun
 begun_in [] = None
 begun_in (o ∷ outputs) = or_else (begun o.message) (begun_in outputs)
 
@@ -51,8 +56,8 @@ question_in (Called serial quiet (Call.Check subject action details flags cancel
 question_in _ = None
 
 -- the challenge that an item opens, by its question and its Begin, its subject's facts, the action's value, the agent and the asker's uid
-abbrev pub challenge_of : List Item → Item → Question → Cookie × List Identity → Facts → Implicit × RuleSource → Agent → ℕ → Pending
-challenge_of past i q b f v a uid = record {
+abbrev pub challenge_of : List Item → Item → Question → Begun → Facts → Implicit × RuleSource → Agent → ℕ → Pending
+challenge_of past i q b f v a uid = let (value, source) = v in record {
   entry = length past;
   asker = i.entry.caller;
   asker_uid = uid;
@@ -61,10 +66,10 @@ challenge_of past i q b f v a uid = record {
   cancel = q.cancel;
   key = f.key;
   action = q.action;
-  value = v.0;
-  source = v.1;
-  cookie = b.0;
-  identities = b.1;
+  value = value;
+  source = source;
+  cookie = b.cookie;
+  identities = b.identities;
   agent = a.caller;
   agent_serial = sent past a.caller + 1;
   agent_key = a.key;
@@ -73,19 +78,19 @@ challenge_of past i q b f v a uid = record {
 }
 
 -- the same, with the asker's uid
-abbrev pub opened_to : List Item → Item → Question → Cookie × List Identity → Facts → Implicit × RuleSource → Agent → Option Pending
+abbrev pub opened_to : List Item → Item → Question → Begun → Facts → Implicit × RuleSource → Agent → Option Pending
 opened_to past i q b f v a = option_map (challenge_of past i q b f v a) (uid_of past i.entry.caller)
 
 -- the same, with the agent for the subject
-abbrev pub opened_by : List Item → Item → Question → Cookie × List Identity → Facts → Implicit × RuleSource → Option Pending
+abbrev pub opened_by : List Item → Item → Question → Begun → Facts → Implicit × RuleSource → Option Pending
 opened_by past i q b f v = option_and_then (opened_to past i q b f v) (agent_for past f)
 
 -- the same, with the action's value
-abbrev pub opened_for : List Item → Item → Question → Cookie × List Identity → Facts → Option Pending
+abbrev pub opened_for : List Item → Item → Question → Begun → Facts → Option Pending
 opened_for past i q b f = option_and_then (opened_by past i q b f) (implicit_for past f q.action)
 
 -- the same, with the subject's facts
-abbrev pub opened_with : List Item → Item → Question → Cookie × List Identity → Option Pending
+abbrev pub opened_with : List Item → Item → Question → Begun → Option Pending
 opened_with past i q b = option_and_then (opened_for past i q b) (facts past q.subject)
 
 -- the same, with the Begin among the item's outputs

@@ -9,6 +9,7 @@ use Rattle.authority_model.specs.declared.event.Event.{Event}
 use Rattle.authority_model.specs.declared.event.Event.TheVariants.{Call as Called, AgentError}
 use Rattle.authority_model.specs.declared.journal.Entry.{Entry}
 use Rattle.authority_model.specs.declared.journal.History.{History}
+use Rattle.authority_model.specs.declared.journal.Limits.{Limits}
 use Rattle.authority_model.specs.declared.key.Key.{Key}
 use Rattle.authority_model.specs.declared.load.FileFault.{FileFault}
 use Rattle.authority_model.specs.declared.load.Loaded.{Loaded}
@@ -168,6 +169,6 @@ cost_of_load l = capped (cost_of_policy l.policy + cost_of_world l.world + sum_b
 abbrev pub bytes_of : History → ℕ
 bytes_of h = sum_by cost_of_entry h.entries + sum_by cost_of_load h.loads
 
--- A history is full: it has as many entries, or as many counted bytes, as the limits say. (A refusal of a step is to be told by this; no contract cites it yet.)
-abbrev pub IsFull : ℕ → ℕ → History → Type 0
-IsFull entries bytes h = (entries ≤ length h.entries) ⊎ (bytes ≤ bytes_of h)
+-- a journal is full: it has as many entries, or as many counted bytes, as the limits say
+abbrev pub IsFull : Limits → History → Type 0
+IsFull limits h = (limits.entries ≤ length h.entries) ⊎ (limits.bytes ≤ bytes_of h)

@@ -37,7 +37,7 @@ serves key action t g = same_key g.key key && bytes_eq g.action action && is_liv
 
 -- whether an action is allowed by its own value or by a grant of its own
 abbrev pub own : List Item → List GrantRow → Facts → ℕ → Bytes → Bool
-own past grants f t b = option_map_or (λ v. is_yes v.0) (implicit_for past f b) false || is_some (find (serves f.key b t) grants)
+own past grants f t b = option_map_or (λ (value, source). is_yes value) (implicit_for past f b) false || is_some (find (serves f.key b t) grants)
 
 -- the annotation by which an action implies others
 abbrev pub imply_key : Bytes
@@ -68,9 +68,10 @@ by_grant None b value source = by_imply b value source
 -- The decision on a subject of these facts, where the action has this value: uid 0, a yes of the value, the least live grant, the least action that implies this one, and then the value, in this order.
 abbrev pub decided : List Item → List GrantRow → Facts → ℕ → Bytes → Implicit × RuleSource → Decision
 decided past grants f t a v =
+    let (value, source) = v in
     if f.uid == 0 then Decision.Root
-    else (if is_yes v.0 then Decision.Yes v.1
-    else by_grant (find (serves f.key a t) grants) (least_text (implying past grants f t a)) v.0 v.1)
+    else (if is_yes value then Decision.Yes source
+    else by_grant (find (serves f.key a t) grants) (least_text (implying past grants f t a)) value source)
 
 -- the decision on a subject of these facts; there is none for an unknown action
 abbrev pub decision_for : List Item → List GrantRow → Facts → ℕ → Bytes → Option Decision

@@ -29,4 +29,5 @@ pub mod Reasons
 pub mod Details
 pub mod Causes
 pub mod Costs
+pub mod Entering
 pub mod Small

@@ -118,7 +118,7 @@ pub record Asks (before : List Item) (q : Item) (c serial n s : ℕ) (action : B
   pub agent_caller : agent.caller ≡ n
   pub begin : Output
   pub identities : List Identity
-  pub begins : begun begin.message ≡ Some (cookie, identities)
+  pub begins : begun begin.message ≡ Some (record { cookie = cookie; identities = identities })
   pub placed : NthTo n (sent before n) s begin q.entry.outputs
   pub offered_are : offered ≡ allowed (world_of before) (policy_of before).admins value f.uid
 

@@ -11,6 +11,7 @@ use Rattle.authority_model.specs.declared.journal.Item.{Item}
 use Rattle.authority_model.specs.declared.key.Key.{Key}
 use Rattle.authority_model.specs.declared.message.Output.{Output}
 use Rattle.authority_model.specs.declared.pending.Pending.{Pending}
+use Rattle.authority_model.specs.declared.process_id.ProcessId.{ProcessId}
 use Rattle.authority_model.specs.declared.verdict.TheConstants.{GRANT_SECONDS}
 use Rattle.authority_model.specs.declared.verdict.RuleSource.{RuleSource}
 use Rattle.authority_model.specs.declared.world.Process.{Process as ProcessRow}
@@ -60,29 +61,29 @@ pub record IsLive (past : List Item) (c : ℕ) : Type 0 where
   pub stays : NoneOf (λ past j. departs c j) later (i ∷ before)
 
 -- an item is an Announce by the live connection of a process that the world lists, whose uid is the connection's or the connection's is 0
-pub record Announces (past : List Item) (i : Item) (c pid start : ℕ) : Type 0 where
+pub record Announces (past : List Item) (i : Item) (c : ℕ) (p : ProcessId) : Type 0 where
   pub caller : i.entry.caller ≡ c
   pub serial : ℕ
   pub quiet : Bool
-  pub event : i.entry.event ≡ Called serial quiet (Call.Announce pid start)
+  pub event : i.entry.event ≡ Called serial quiet (Call.Announce p.pid p.start)
   pub lives : live past c ≡ true
   pub row : ProcessRow
-  pub listed : process_row (world_of past) pid start ≡ Some row
+  pub listed : process_row (world_of past) p.pid p.start ≡ Some row
   pub may : may_for past c row.uid ≡ true
 
 -- no later item announces
 abbrev pub NoneAnnounces : List Item → List Item → ℕ → Type 0
 NoneAnnounces [] rest c = ⊤
-NoneAnnounces (j ∷ later) rest c = ((pid start : ℕ) → Announces (later ++ rest) j c pid start → ⊥) × NoneAnnounces later rest c
+NoneAnnounces (j ∷ later) rest c = ((p : ProcessId) → Announces (later ++ rest) j c p → ⊥) × NoneAnnounces later rest c
 
 -- the connection is live, and the last item that announces names this process
-pub record IsAnnounced (past : List Item) (c pid start : ℕ) : Type 0 where
+pub record IsAnnounced (past : List Item) (c : ℕ) (p : ProcessId) : Type 0 where
   pub lives : live past c ≡ true
   pub later : List Item
   pub i : Item
   pub before : List Item
   pub parts : past ≡ later ++ i ∷ before
-  pub announces : Announces before i c pid start
+  pub announces : Announces before i c p
   pub last : NoneAnnounces later (i ∷ before) c
 
 -- An item is a Register by a live connection, whose subject has facts with the key, and the key's uid is the connection's or the connection's is 0.
@@ -127,7 +128,7 @@ pub record Opens (past : List Item) (i : Item) (o : Pending) : Type 0 where
   pub agent_key : agent.key ≡ o.agent_key
   pub agent_path : agent.path ≡ o.agent_path
   pub begin : Output
-  pub begins : begun begin.message ≡ Some (o.cookie, o.identities)
+  pub begins : begun begin.message ≡ Some (record { cookie = o.cookie; identities = o.identities })
   pub placed : NthTo o.agent (sent past o.agent) o.agent_serial begin i.entry.outputs
 
 -- a challenge as it was opened

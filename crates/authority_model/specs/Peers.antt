@@ -4,6 +4,7 @@ use Rattle.std.specs.Option.{option_map_or}
 use Rattle.authority_model.specs.declared.event.Event.{Event}
 use Rattle.authority_model.specs.declared.event.Event.TheVariants.{Connect, Call as Called, Depart}
 use Rattle.authority_model.specs.declared.event.Call.{Call}
+use Rattle.authority_model.specs.declared.process_id.ProcessId.{ProcessId}
 use Rattle.authority_model.specs.Lists.{or_else, when}
 use Rattle.authority_model.specs.Worlds.{process_row}
 use Rattle.authority_model.specs.Items.{Item, world_of}
@@ -76,19 +77,19 @@ abbrev pub accepts_announce : List Item → ℕ → ℕ → ℕ → Bool
 accepts_announce past c pid start = live past c && option_map_or (λ p. may_for past c p.uid) (process_row (world_of past) pid start) false
 
 -- the process that a call announces
-abbrev pub process_named : Call → Option (ℕ × ℕ)
-process_named (Call.Announce pid start) = Some (pid, start)
+abbrev pub process_named : Call → Option ProcessId
+process_named (Call.Announce pid start) = Some (record { pid = pid; start = start })
 process_named _ = None
 
 -- the process that an item of a connection announces, where that is accepted
-abbrev pub announces : List Item → ℕ → Item → Option (ℕ × ℕ)
-announces past c i = option_and_then (λ p. when (is_by c i && accepts_announce past c p.0 p.1) p) (option_and_then process_named (call_in i.entry.event))
+abbrev pub announces : List Item → ℕ → Item → Option ProcessId
+announces past c i = option_and_then (λ p. when (is_by c i && accepts_announce past c p.pid p.start) p) (option_and_then process_named (call_in i.entry.event))
 
 -- the last accepted announcement of a connection
-abbrev pub last_announced : List Item → ℕ → Option (ℕ × ℕ)
+abbrev pub last_announced : List Item → ℕ → Option ProcessId
 last_announced [] c = None
 last_announced (i ∷ past) c = or_else (announces past c i) (last_announced past c)
 
 -- the process that a live connection announced
-abbrev pub announced : List Item → ℕ → Option (ℕ × ℕ)
+abbrev pub announced : List Item → ℕ → Option ProcessId
 announced past c = if live past c then last_announced past c else None

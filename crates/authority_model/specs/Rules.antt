@@ -49,7 +49,7 @@ matches_at label action category e = any_of (λ glob. matches glob label) e.iden
 
 -- the last rule that matches at a place, with its own place among the rules
 abbrev pub last_at : Policy → Bytes → Category → Bytes → Option (ℕ × RuleEntry)
-last_at policy action category label = find_last (λ e. matches_at label action category e.1) (enumerate_from 0 policy.entries)
+last_at policy action category label = find_last (λ (place, entry). matches_at label action category entry) (enumerate_from 0 policy.entries)
 
 -- the rule of the greatest matching pair: the last identity place at which a rule matches, and the last such rule there
 abbrev pub greatest : Policy → Bytes → Category → List Bytes → Option (ℕ × RuleEntry)
@@ -63,7 +63,7 @@ deciding policy world uid category action = greatest policy action category (pla
 -- the value, and what gave it: the rule, or else the action's default
 abbrev pub value_by : Category → Action → Option (ℕ × RuleEntry) → Implicit × RuleSource
 value_by category action None = (default_of action category, RuleSource.Default category)
-value_by category action (Some e) = (unwrap_or (value_of e.1 category) (default_of action category), RuleSource.Entry e.0)
+value_by category action (Some (place, entry)) = (unwrap_or (value_of entry category) (default_of action category), RuleSource.Entry place)
 
 -- the implicit value of an action for a user in a category, and what gave it; there is none for an unknown action
 abbrev pub implicit : Policy → World → ℕ → Category → Bytes → Option (Implicit × RuleSource)

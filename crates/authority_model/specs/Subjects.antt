@@ -2,6 +2,7 @@
 use Rattle.std.specs.Prelude.{ℕ, List, Option, option_map, option_and_then, codes}
 use Rattle.pk_types.specs.declared.values.Subject.{Subject}
 use Rattle.authority_model.specs.declared.key.Key.{Key}
+use Rattle.authority_model.specs.declared.process_id.ProcessId.{ProcessId}
 use Rattle.authority_model.specs.declared.world.World.{World}
 use Rattle.authority_model.specs.Words.{Bytes, after_front, number_of}
 use Rattle.authority_model.specs.Worlds.{process_row, session_row}
@@ -17,11 +18,15 @@ caller_named name = option_and_then number_of (after_front (codes ":1.") name)
 abbrev pub facts_of_row : World → ℕ → ℕ → Option Facts
 facts_of_row world pid start = option_map (facts_of_process world) (process_row world pid start)
 
+-- the process that a pair of a pid and a start names
+abbrev pub process_id : ℕ × ℕ → ProcessId
+process_id pair = let (pid, start) = pair in record { pid = pid; start = start }
+
 -- what is known in a world of a subject, where a bus name stands for this process
-abbrev pub facts_in : World → Option (ℕ × ℕ) → Subject → Option Facts
+abbrev pub facts_in : World → Option ProcessId → Subject → Option Facts
 facts_in world announced (Subject.Process pid start) = facts_of_row world pid start
 facts_in world announced (Subject.Session id) = option_map facts_of_session (session_row world id)
-facts_in world announced (Subject.BusName name) = option_and_then (λ p. facts_of_row world p.0 p.1) announced
+facts_in world announced (Subject.BusName name) = option_and_then (λ p. facts_of_row world p.pid p.start) announced
 
 -- what is known of the process with this pid and start
 abbrev pub facts_of_pid : List Item → ℕ → ℕ → Option Facts
@@ -31,7 +36,7 @@ facts_of_pid past pid start = facts_of_row (world_of past) pid start
 abbrev pub facts : List Item → Subject → Option Facts
 facts past (Subject.Process pid start) = facts_of_pid past pid start
 facts past (Subject.Session id) = option_map facts_of_session (session_row (world_of past) id)
-facts past (Subject.BusName name) = option_and_then (λ p. facts_of_pid past p.0 p.1) (option_and_then (announced past) (caller_named name))
+facts past (Subject.BusName name) = option_and_then (λ p. facts_of_pid past p.pid p.start) (option_and_then (announced past) (caller_named name))
 
 -- the key of a subject
 abbrev pub key_of : List Item → Subject → Option Key

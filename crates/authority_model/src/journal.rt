@@ -8,6 +8,24 @@ pub const MAX_ENTRIES: u64 = 1_048_576;
 /// The greatest limit of counted bytes of a journal.
 pub const MAX_BYTES: u64 = 536_870_912;
 
+/// How much a journal may hold. It takes no further entry as soon as it has as many entries, or as many
+/// counted bytes; so the last entry may bring the bytes over their limit.
+#[derive(Clone, Copy, Debug, PartialEq, Eq)]
+pub struct Limits {
+    /// The number of entries, at most `MAX_ENTRIES`.
+    pub entries: u64,
+    /// The counted bytes, at most `MAX_BYTES`.
+    pub bytes: u64,
+}
+
+impl Limits {
+    /// The greatest limits of a journal.
+    pub const GREATEST: Limits = Limits {
+        entries: MAX_ENTRIES,
+        bytes: MAX_BYTES,
+    };
+}
+
 /// One event with its outputs.
 #[derive(Drop)]
 pub struct Entry {

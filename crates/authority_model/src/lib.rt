@@ -23,6 +23,7 @@ mod method_tests;
 mod offered;
 mod pending;
 mod policy;
+mod process_id;
 #[cfg(test)]
 mod tests;
 mod verdict;
@@ -33,7 +34,7 @@ pub use event::{Call, Event};
 pub use facts::Facts;
 pub use identities::IdentityFault;
 pub use interaction::{ALLOW_USER_INTERACTION, allows_interaction};
-pub use journal::{Entry, EntryList, History, Item, MAX_BYTES, MAX_ENTRIES};
+pub use journal::{Entry, EntryList, History, Item, Limits, MAX_BYTES, MAX_ENTRIES};
 pub use key::{Key, KeyRef};
 pub use load::{FileFault, FileFaultList, Loaded, LoadedList};
 pub use locale::localized;
@@ -41,6 +42,7 @@ pub use message::{Answer, ErrorCause, Message, Output, OutputList};
 pub use offered::offers;
 pub use pending::{Agent, MAX_PENDING, Pending};
 pub use policy::{Action, ActionList, Localized, LocalizedList, Policy, RuleEntry, RuleList};
+pub use process_id::ProcessId;
 pub use verdict::{
     Cookie, Decision, GRANT_SECONDS, GrantRow, GrantRowList, Reason, RuleSource, Verdict,
 };

@@ -24,7 +24,7 @@ place-within p (x ∷ xs) = by (not (p x)) (place-within p xs)
     by true ih = omega arith
     by false ih = omega arith
 
--- the bytes in front that part runs make no run
+-- the separators at the front make no run
 pub runs-drop : (parts : ℕ → Bool) (text : Bytes) → runs parts (drop (position_or_len (λ b. not (parts b)) text) text) ≡ runs parts text
 runs-drop parts [] = refl
 runs-drop parts (b ∷ bs) = by (parts b) refl (runs-drop parts bs)
@@ -33,7 +33,7 @@ runs-drop parts (b ∷ bs) = by (parts b) refl (runs-drop parts bs)
     by true is ih = ap (λ n. runs parts (drop n (b ∷ bs))) (one-add (position_or_len (λ b. not (parts b)) bs)) ∙ ih
     by false is ih = ap (λ t. if t then runs parts bs else run_joined parts b bs (runs parts bs)) is
 
--- what stands behind them begins with a byte that parts no runs
+-- what comes after them begins with a byte that is not a separator
 pub parts-first : (parts : ℕ → Bool) (text : Bytes) (b : ℕ) (bs : Bytes) → drop (position_or_len (λ b. not (parts b)) text) text ≡ b ∷ bs → parts b ≡ false
 parts-first parts [] b bs e = absurd (cc)
 parts-first parts (x ∷ xs) b bs e = by (parts x) refl (parts-first parts xs b bs) e
@@ -42,7 +42,7 @@ parts-first parts (x ∷ xs) b bs e = by (parts x) refl (parts-first parts xs b 
     by true is ih e = ih (ap (λ n. drop n (x ∷ xs)) (sym (one-add (position_or_len (λ b. not (parts b)) xs))) ∙ e)
     by false is ih e = let same : x ≡ b = cc in ap parts (sym same) ∙ is
 
--- a byte in front of one that parts runs is a run of its own
+-- a byte before a separator is a run of its own
 run_joined-parts : (parts : ℕ → Bool) (b c : ℕ) (cs : Bytes) (found : List Bytes) → parts c ≡ true → run_joined parts b (c ∷ cs) found ≡ (b ∷ []) ∷ found
 run_joined-parts parts b c cs [] is = refl
 run_joined-parts parts b c cs (run ∷ found) is = ap (λ t. if t then ((b ∷ []) ∷ run ∷ found) else ((b ∷ run) ∷ found)) is
@@ -72,7 +72,7 @@ pub no_word : (text rest : Bytes) (n : ℕ) → n ≡ position_or_len (λ b. not
 no_word text [] n first is empty = sym (runs-drop is_blank text) ∙ ap (runs is_blank) (ap (λ n. drop n text) (sym first) ∙ sym is)
 no_word text (b ∷ bs) n first is empty = absurd (omega (arith, eqb-true (length (b ∷ bs)) 0 empty))
 
--- the first word, and what stands behind it
+-- the first word, and what comes after it
 pub first_word : (text rest word after : Bytes) (n end : ℕ) → n ≡ position_or_len (λ b. not (is_blank b)) text → rest ≡ drop n text → (length rest == 0) ≡ false
     → end ≡ position_or_len is_blank rest → word ≡ take end rest → after ≡ drop end rest → words text ≡ word ∷ words after
 first_word text [] word after n end first is some ends front back = absurd (cc)

@@ -17,14 +17,14 @@ back-step : (a b c : ℕ) (r s t : Bool) → (r ≡ false → s ≡ false → t 
     → (nat_lt a b || ((a == b) && r)) ≡ false → (nat_lt b c || ((b == c) && s)) ≡ false → (nat_lt a c || ((a == c) && t)) ≡ false
 back-step a b c r s t rest h k = grind (arith, nat_tests)
 
--- no text comes before another and behind it
+-- no text comes before another and after it
 pub comes_before-asym : (xs ys : Bytes) → comes_before xs ys ≡ true → comes_before ys xs ≡ false
 comes_before-asym [] [] h = refl
 comes_before-asym [] (b ∷ bs) h = refl
 comes_before-asym (a ∷ xs) [] h = absurd (cc)
 comes_before-asym (a ∷ xs) (b ∷ ys) h = asym-step a b (comes_before xs ys) (comes_before ys xs) (comes_before-asym xs ys) h
 
--- texts of which none comes before the other are one
+-- two texts, neither of which comes before the other, are the same
 pub comes_before-same : (xs ys : Bytes) → comes_before xs ys ≡ false → comes_before ys xs ≡ false → xs ≡ ys
 comes_before-same [] [] h k = refl
 comes_before-same [] (b ∷ bs) h k = absurd (cc)
@@ -35,7 +35,7 @@ comes_before-same (a ∷ xs) (b ∷ ys) h k =
     let rest : xs ≡ ys = comes_before-same xs ys step.1 step.2 in
     cc
 
--- what comes not before a text comes not before those that it comes not before
+-- what does not come before a text does not come before those that the text does not come before
 pub comes_before-back : (xs ys zs : Bytes) → comes_before xs ys ≡ false → comes_before ys zs ≡ false → comes_before xs zs ≡ false
 comes_before-back [] [] [] h k = refl
 comes_before-back [] [] (c ∷ zs) h k = k
@@ -100,7 +100,7 @@ least_text-IsLeast (x ∷ xs) = IsLeast-more (Has xs) x (least_text xs) (least_t
 pub least_text-alike : (xs ys : List Bytes) → ((b : Bytes) → Has xs b → Has ys b) → ((b : Bytes) → Has ys b → Has xs b) → least_text xs ≡ least_text ys
 least_text-alike xs ys to back = IsLeast-one (Has ys) (least_text xs) (least_text ys) (IsLeast-alike (Has xs) (Has ys) to back (least_text xs) (least_text-IsLeast xs)) (least_text-IsLeast ys)
 
--- the lesser of the least and a text behind the others
+-- the lesser of the least and a text after the others
 pub IsLeast-later : (P : Bytes → Type 0) (x : Bytes) (o : Option Bytes) → IsLeast P o → IsLeast (λ b. (x ≡ b) ⊎ P b) (Some (option_map_or (λ m. if comes_before x m then x else m) o x))
 IsLeast-later P x None h = IsLeast-more P x None h
 IsLeast-later P x (Some m) h = by (comes_before x m) refl
@@ -117,7 +117,7 @@ IsLeast-later P x (Some m) h = by (comes_before x m) refl
     by true is = (inl refl, λ b. newer b is)
     by false is = (inr h.0, λ b. older b is)
 
--- the elements of a list and one behind it
+-- the elements of a list and one after it
 has_push : (xs : List Bytes) (x b : Bytes) → Has (xs ++ x ∷ []) b → (x ≡ b) ⊎ Has xs b
 has_push [] x b (inl same) = inl same
 has_push [] x b (inr none) = absurd none

@@ -17,7 +17,7 @@ use Rattle.authority_model.specs.Words.{Bytes, comes_before, least_text}
 use Rattle.authority_model.proofs.Cases.{both, find_has, filter_has, map_has}
 use Rattle.check_decision.proofs.Least.{least_text-alike, least_text-push}
 
--- what passes stands in the filtered list, and its image in the mapped one
+-- what passes is in the filtered list, and its image in the mapped one
 has_filter : {A : Type 0} (test : A → Bool) (xs : List A) (y : A) → Has xs y → test y ≡ true → Has (filter test xs) y
 has_filter test [] y h passes = absurd h
 has_filter {A} test (x ∷ xs) y h passes = by (test x) refl h (has_filter test xs y)

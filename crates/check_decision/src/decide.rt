@@ -28,8 +28,9 @@ fn by_value<'a>(value: Implicit, source: RuleSource) -> DecisionRef<'a>
     }
 }
 
-/// The decision where the action has this value: uid 0, a yes of the value, the least live grant, the
-/// least action that implies this one, and then the value, in this order.
+/// The decision where the action has this value: uid 0, a yes of the value, the least live
+/// temporary authorization, the least action that implies this one, and then the value, in this
+/// order.
 fn decided<'a>(
     loaded: &'a Loaded,
     grants: &[GrantRow],
@@ -56,8 +57,8 @@ fn decided<'a>(
     }
 }
 
-/// The decision on a subject of these facts at a moment, with the grants that nothing ended, by rising
-/// number. There is none exactly for an unknown action.
+/// The decision on a subject of these facts at a moment, with the temporary authorizations that
+/// nothing ended, by rising number. The answer is `None` exactly for an unknown action.
 pub fn decision<'a>(
     loaded: &'a Loaded,
     grants: &[GrantRow],

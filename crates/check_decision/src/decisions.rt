@@ -14,7 +14,7 @@ pub enum DecisionRef<'a> {
     Root,
     /// Yes, by a default or a rule.
     Yes(RuleSource),
-    /// Yes, by the grant with this number.
+    /// Yes, by the temporary authorization with this number.
     Grant(u64),
     /// Yes, by the action of this id, which implies the action and is allowed.
     Imply(&'a Text),
@@ -46,7 +46,7 @@ fn place(policy: &Policy, id: &Text) -> u32
 }
 
 impl DecisionRef<'_> {
-    /// The decision as it is told to callers: an action that implies another is named by its place.
+    /// The decision as callers are told it: an action that implies another is named by its place.
     pub fn told(&self, policy: &Policy) -> Decision
         requires actions { IsShort policy.now.actions }
         ensures told { result ≡ told_decision policy.now (decision_seen self.now) }

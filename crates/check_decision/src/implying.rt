@@ -49,7 +49,7 @@ fn is_yes_for(loaded: &Loaded, facts: &Facts<'_>, id: &Text) -> bool
     }
 }
 
-/// Whether an action is allowed by its own value or by a grant of its own.
+/// Whether an action is allowed by its own value or by a temporary authorization of its own.
 fn is_allowed(
     loaded: &Loaded,
     grants: &[GrantRow],
@@ -63,8 +63,8 @@ fn is_allowed(
     is_yes_for(loaded, facts, id) || live_grant(grants, facts.key, id, moment).is_some()
 }
 
-/// Whether an action implies another and is allowed. Of several actions with one id the first counts,
-/// and it is looked up for those alone that list the other.
+/// Whether an action implies another and is allowed. Where several actions have one id, the first
+/// counts, and it is looked up only for those that list the other.
 fn counts(
     loaded: &Loaded,
     grants: &[GrantRow],

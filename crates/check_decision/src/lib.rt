@@ -1,8 +1,9 @@
 //! The decision on a subject's facts, and its verdict.
 //!
 //! A decision is the decision that the definitions take on a check: by uid 0, by the value of the
-//! action, by a grant, or by an action that implies this one. It takes no memory, and its cost grows
-//! with the number of actions times the length of an annotation. Verdicts and identities take memory.
+//! action, by a temporary authorization, or by an action that implies this one. Taking it needs no
+//! memory, and its cost grows with the number of actions times the length of an annotation.
+//! Verdicts and identities take memory.
 #![tactic(auto)]
 
 mod annotations;

@@ -21,7 +21,7 @@ use pk_types::{Identity, Implicit, NoMemory, Text};
 use std::alloc::Global;
 use subject_table::facts_of_key;
 
-/// The decision for a key at a moment; there is none for an unknown action or subject.
+/// The decision for a key at a moment, and `None` for an unknown action or subject.
 fn decision_for_key<'a>(
     loaded: &'a Loaded,
     grants: &[GrantRow],
@@ -97,11 +97,12 @@ fn answered_verdict(
     }
 }
 
-/// The verdict on the return of a challenge at a moment, with the grants that nothing ended, by rising
-/// number. A grant that is made for it gets the number `made`.
+/// The verdict on the return of a challenge at a moment, with the temporary authorizations that
+/// nothing ended, by rising number. A temporary authorization that is made for it gets the number
+/// `made`.
 ///
-/// Without an answer it is no. With one the check is decided again, and a challenge that is still due
-/// is yes where the identity may answer it now.
+/// Without an answer it is a no. With one the check is decided again, and a challenge that is still
+/// due is yes where the identity may answer it now.
 pub fn return_verdict(
     alloc: Global,
     loaded: &Loaded,

@@ -1,4 +1,4 @@
-// Each public call once, with ample memory. What is wanted is said by polkit(8).
+// Each public call once, with ample memory. The expected values are those of polkit(8).
 ghost use Rattle.std.specs.Prelude.{IfOk};
 ghost use Rattle.authority_model.specs.Small.{IsShort};
 
@@ -84,7 +84,7 @@ fn load(alloc: Global) -> Result<Loaded, Fail>
     Ok(loaded)
 }
 
-/// The grant that makes a process of this user yes until second 305.
+/// The temporary authorization that makes a process of this user yes until second 305.
 fn grant(alloc: Global, uid: u32) -> Result<GrantRow, Fail> {
     Ok(GrantRow {
         id: 4,
@@ -99,7 +99,7 @@ fn grant(alloc: Global, uid: u32) -> Result<GrantRow, Fail> {
     })
 }
 
-/// What is decided of a process of this user, where uid 1000 has the grant.
+/// What is decided of a process of this user, where uid 1000 has the temporary authorization.
 fn decided(alloc: Global, uid: u32, moment: u64, id: &str) -> Result<Option<Decision>, Fail> {
     let loaded = load(alloc)?;
     let grants = [grant(alloc, 1000)?];
@@ -162,7 +162,8 @@ fn challenge(alloc: Global, answered: Option<Identity>) -> Result<Pending, Fail>
     })
 }
 
-/// Whether the return of a challenge is yes, and the number of the grant that it makes.
+/// Whether the return of a challenge is yes, and the number of the temporary authorization that it
+/// makes.
 fn returned(alloc: Global, answered: Option<Identity>) -> Result<(bool, Option<u64>), Fail> {
     let loaded = load(alloc)?;
     let challenge = challenge(alloc, answered)?;

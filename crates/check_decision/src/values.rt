@@ -17,7 +17,7 @@ pub fn is_auth(value: Implicit) -> bool
     }
 }
 
-/// Whether the challenge of a value makes a grant.
+/// Whether the challenge of a value makes a temporary authorization.
 pub fn is_keep(value: Implicit) -> bool
     ensures keep { result ≡ values.is_keep value }
 {

@@ -1,4 +1,4 @@
-// Verdicts on a check that is not asked.
+// Verdicts on a check where nobody is asked.
 ghost use Rattle.std.specs.Prelude.{◌≡◌, [], List, IfOk};
 ghost use Rattle.authority_model.specs.declared.journal.Item.{Item};
 ghost use Rattle.authority_model.specs.Items.{policy_of};
@@ -40,7 +40,7 @@ pub fn no(alloc: Global, reason: Reason) -> Verdict
     }
 }
 
-/// A challenge, which would make a grant where `keep` says so.
+/// A challenge, which would make a temporary authorization where `keep` says so.
 fn challenge(alloc: Global, reason: Reason, keep: bool) -> Verdict
     ensures challenge { result ≡ challenge_by reason keep }
 {
@@ -54,7 +54,8 @@ fn challenge(alloc: Global, reason: Reason, keep: bool) -> Verdict
     }
 }
 
-/// Yes by a challenge that was answered, with the number of the grant that it made.
+/// Yes by a challenge that was answered, with the number of the temporary authorization that it
+/// made.
 pub fn granted(alloc: Global, grant: Option<u64>) -> Verdict
     ensures granted { result ≡ granted_by grant }
 {
@@ -78,7 +79,7 @@ fn reason_of(source: RuleSource) -> Reason
     }
 }
 
-/// A copy of the pairs of the rule that gave a value; no rule gives none.
+/// A copy of the pairs of the rule that gave a value, and no pairs where no rule gave it.
 fn pairs_of(alloc: Global, policy: &Policy, source: RuleSource) -> Result<PairList, NoMemory>
     ensures pairs { (past : List Item) → policy.now ≡ policy_of past → IfOk result (λ pairs. pairs ≡ verdicts.pairs_of past source) }
 {

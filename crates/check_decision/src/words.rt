@@ -12,7 +12,7 @@ fn is_blank(b: u8) -> bool
     b == b' ' || b == b'\t' || b == b'\n'
 }
 
-/// The first byte of a text that is no blank.
+/// The first byte of a text that is not a blank.
 fn first_other(text: &[u8]) -> Option<usize>
     ensures first { result ≡ position (λ b. not (words_of.is_blank b)) text.now }
 {
@@ -26,7 +26,7 @@ fn first_blank(text: &[u8]) -> Option<usize>
     text.iter().position(|b| is_blank(*b))
 }
 
-/// How many blanks stand at the front of a text.
+/// How many blanks there are at the front of a text.
 fn blanks(text: &[u8]) -> usize
     ensures first { result ≡ position_or_len (λ b. not (words_of.is_blank b)) text.now }
     ensures within { result ≤ length text.now }
@@ -34,7 +34,7 @@ fn blanks(text: &[u8]) -> usize
     first_other(text).unwrap_or(text.len())
 }
 
-/// How many bytes stand in front of the first blank of a text.
+/// How many bytes come before the first blank of a text.
 fn front_len(text: &[u8]) -> usize
     ensures first { result ≡ position_or_len words_of.is_blank text.now }
     ensures within { result ≤ length text.now }
@@ -42,7 +42,7 @@ fn front_len(text: &[u8]) -> usize
     first_blank(text).unwrap_or(text.len())
 }
 
-/// The first word of a text, and what stands behind it.
+/// The first word of a text, and what comes after it.
 pub fn next_word(text: &[u8]) -> Option<(&[u8], &[u8])>
     ensures first { IfSome result (λ w. words text.now ≡ w.0.now ∷ words w.1.now) }
     ensures shorter { IfSome result (λ w. length w.1.now < length text.now) }

@@ -1,4 +1,4 @@
--- The grants in a context tell all that those tell that nothing ended.
+-- The temporary authorizations in a context tell as much as all that nothing ended.
 use Rattle.std.proofs.Common.{◌≡◌, ◌&&◌, ap, ◌∙◌, List, Option, Some, None}
 use Rattle.std.specs.Prelude.{bytes_eq, find, option_map}
 use Rattle.std.specs.List.{list_any}
@@ -18,11 +18,11 @@ use Rattle.journal_answers.specs.declared.context.Context.{Context}
 use Rattle.journal_answers.specs.Contexts.{IsContextOf}
 
 module _ (past : List Item) (x : Context) (is : IsContextOf past x) where
-  -- whether a key has a live grant
+  -- whether a key has a live temporary authorization
   pub any_kept : (key : Key) → list_any (λ g. same_key g.key key && is_live_at x.moment g) x.grants.now ≡ list_any (λ g. same_key g.key key && is_live_at x.moment g) (kept past)
   any_kept key = ap (list_any (λ g. same_key g.key key && is_live_at x.moment g)) is.grants ∙ current_any_of_key past x.moment is.rises key
 
-  -- the live grant of a text
+  -- the live temporary authorization of a text
   pub text_kept : (id : Bytes) → find (λ g. bytes_eq id (grant_text g.id) && is_live_at x.moment g) x.grants.now ≡ find (λ g. bytes_eq id (grant_text g.id) && is_live_at x.moment g) (kept past)
   text_kept id = ap (find (λ g. bytes_eq id (grant_text g.id) && is_live_at x.moment g)) is.grants ∙ current_of_text past x.moment is.rises id
 
@@ -37,7 +37,7 @@ module _ (past : List Item) (x : Context) (is : IsContextOf past x) where
       ∙ current_return past x.moment is.rises x.made ch
       ∙ ap (λ n. return_verdict past (kept past) n x.moment ch) is.made
 
--- what is told by a decision that there is
+-- what an existing decision tells
 pub told_by : {A B C : Type 0} (decide : A → B) (tell : B → List C) (o : Option A) (d : B) (none : List C) → Some d ≡ option_map decide o → tell d ≡ option_map_or (λ v. tell (decide v)) o none
 told_by decide tell (Some v) d none is = ap tell (cc)
 told_by decide tell None d none is = absurd (cc)

@@ -4,14 +4,14 @@ use Rattle.std.specs.Prelude.{if◌then◌else◌}
 use Rattle.std.specs.List.{flat_map}
 use Rattle.std.proofs.lemmas.List.{take_more, flat_map_more, take_all}
 
--- one more element's outputs behind those of the elements before it
+-- one more element's outputs after those of the elements before it
 pub one_more : {A B : Type 0} (f : A → List B) (bs : List B) (xs : List A) (i : ℕ) (x : A) → i < length xs → x ≡ get_or xs i x → (bs ++ flat_map f (take i xs)) ++ f x ≡ bs ++ flat_map f (take (i + 1) xs)
 one_more f bs xs i x within is =
     flat_map_more f bs (take i xs) x
     ∙ ap (λ y. bs ++ flat_map f (take i xs ++ y ∷ [])) is
     ∙ ap (λ ys. bs ++ flat_map f ys) (sym (take_more xs i x within))
 
--- nothing of an element that is passed over
+-- nothing of an element that is skipped
 pub filtered : {A B : Type 0} (p : A → Bool) (f : A → List B) (xs : List A) → flat_map (λ x. if p x then f x else []) xs ≡ flat_map f (filter p xs)
 filtered p f [] = refl
 filtered {A} {B} p f (x ∷ xs) = go (p x) (filtered p f xs)

@@ -1,4 +1,4 @@
--- What a call is answered, by where its answer goes.
+-- The answer to a call, by where it goes.
 use Rattle.std.specs.Prelude.{ℕ, List, [], ◌++◌, ◌&&◌, is_some, if◌then◌else◌}
 use Rattle.std.specs.Option.{option_map_or}
 use Rattle.authority_model.specs.declared.journal.Item.{Item}

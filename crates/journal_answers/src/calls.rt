@@ -1,4 +1,4 @@
-// What each call of a live caller is answered.
+// The answer to each call of a live caller.
 ghost use Rattle.std.specs.Prelude.{◌≡◌, ◌++◌, ◌∷◌, [], List, OnOk, IfOk};
 ghost use Rattle.authority_model.specs.declared.journal.Item.{Item};
 ghost use Rattle.authority_model.specs.declared.event.Call.{Call as TheCall};

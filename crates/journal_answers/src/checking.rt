@@ -1,4 +1,4 @@
-// What a check is answered, or whom it asks.
+// The answer to a check, or the agent that it asks.
 ghost use Rattle.std.specs.Prelude.{◌≡◌, ◌++◌, ◌==◌, [], List, Some, None, OnOk, IfOk, if◌then◌else◌, nat_le, unwrap_or};
 ghost use Rattle.std.specs.Option.{option_copied};
 ghost use Rattle.authority_model.specs.declared.journal.Item.{Item};
@@ -37,7 +37,7 @@ pub struct Check<'a> {
     pub subject: &'a Subject,
     pub action: &'a Text,
     pub details: &'a PairList,
-    /// Whether they allow that a user is asked: `authority_model::allows_interaction`.
+    /// Whether the flags allow that a user is asked: `authority_model::allows_interaction`.
     pub flags: u32,
     /// The cancellation id; empty for none.
     pub cancel: &'a Text,
@@ -133,7 +133,7 @@ fn agent_asked<'a>(context: &Context<'a>, flags: u32, facts: Facts) -> Option<&'
     }
 }
 
-/// Answers a check that comes to a challenge, or asks the agent.
+/// Answers a check whose decision is a challenge, or asks the agent.
 fn tell_challenge(
     outputs: &mut OutputList,
     context: &Context,

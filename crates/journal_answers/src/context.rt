@@ -18,16 +18,17 @@ use pk_types::{Subject, Text};
 use std::alloc::Global;
 
 /// What an event is answered by: the state of the history before it, the load in force, and the
-/// moment and the random word of its entry.
+/// moment and the salt of its entry.
 #[derive(Clone, Copy)]
 pub struct Context<'a> {
     pub alloc: Global,
     pub connections: &'a Connections,
     pub registrations: &'a Registrations,
     pub challenges: &'a Challenges,
-    /// The grants that nothing ended and that were not over at the last moment, by rising number.
+    /// The temporary authorizations that nothing ended and that had not expired at the last moment,
+    /// by rising number.
     pub grants: &'a [GrantRow],
-    /// How many grants were made.
+    /// How many temporary authorizations were made.
     pub made: u64,
     /// The number that the next challenge has.
     pub next_serial: u64,
@@ -82,7 +83,7 @@ impl<'a> Context<'a> {
         with_id(self.challenges.as_slice(), caller, id)
     }
 
-    /// The pending challenge that was sent to this caller with this serial.
+    /// The pending challenge that was sent to this connection with this serial.
     pub fn at_agent(&self, caller: u32, serial: u32) -> Option<&'a Pending>
         ensures found { (past : List Item) → IsContextOf past self.now → option_copied result ≡ at_agent_of past caller serial }
     {

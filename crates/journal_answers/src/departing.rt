@@ -1,4 +1,4 @@
-// What the departure of a caller means for the pending checks.
+// What the departure of a connection means for the pending checks.
 ghost use Rattle.std.specs.Prelude.{◌≡◌, ◌++◌, flat_map, OnOk};
 ghost use Rattle.authority_model.specs.Answers.{answer_departed as departed_of};
 

@@ -84,7 +84,7 @@ fn depart(outputs: &mut OutputList, context: &Context, caller: u32) -> Result<()
     )
 }
 
-/// Answers an event that is no load.
+/// Answers an event that is not a load.
 fn answer(
     outputs: &mut OutputList,
     context: &Context,
@@ -124,8 +124,9 @@ fn answer(
     }
 }
 
-/// The outputs of an event of a caller, by the state of the history before it and the load in force,
-/// which is the last of so many. Its moment is not before the last one. A load has its own outputs.
+/// The outputs of an event of a caller, by the state of the history before it and the load in
+/// force, which is the last of so many. Its moment is not before the last one. Loads are answered
+/// by `load_outputs`.
 pub fn outputs(
     alloc: Global,
     state: &State,

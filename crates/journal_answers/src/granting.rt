@@ -1,4 +1,4 @@
-// Grants that are listed and revoked.
+// Temporary authorizations that are listed and revoked.
 ghost use Rattle.std.specs.Prelude.{◌≡◌, ◌≤◌, ◌++◌, ◌∷◌, ◌&&◌, [], List, OnOk, IfOk, bytes_eq, find, if◌then◌else◌};
 ghost use Rattle.std.specs.List.{list_any};
 ghost use Rattle.std.specs.Option.{option_copied};
@@ -22,14 +22,14 @@ use authority_model::{Answer, ErrorCause, Facts, GrantRow, GrantRowList, KeyRef,
 use pk_types::{List, NoMemory, Subject, Text, TryCopy};
 use std::alloc::Global;
 
-/// Whether a grant is for a key and is live at a moment.
+/// Whether a temporary authorization is for a key and is live at a moment.
 fn is_live_for(grant: &GrantRow, key: KeyRef, moment: u64) -> bool
     ensures live { result ≡ (same_key grant.now.key (key_seen key.entry) && is_live_at moment grant.now) }
 {
     grant.key.is_same(key) && grant.is_live_at(moment)
 }
 
-/// Puts a copy of such a grant at the end.
+/// Puts a copy of such a temporary authorization at the end.
 fn put_live(
     rows: &mut GrantRowList,
     grant: &GrantRow,
@@ -45,7 +45,7 @@ fn put_live(
     }
 }
 
-/// The live grants of a key at a moment, by rising number.
+/// The live temporary authorizations of a key at a moment, by rising number.
 fn live_grants(
     alloc: Global,
     grants: &[GrantRow],
@@ -61,14 +61,14 @@ fn live_grants(
     Ok(rows)
 }
 
-/// Whether a key has a live grant at a moment.
+/// Whether a key has a live temporary authorization at a moment.
 fn has_live(grants: &[GrantRow], key: KeyRef, moment: u64) -> bool
     ensures has { result ≡ list_any (λ g. same_key g.key (key_seen key.entry) && is_live_at moment g) grants.now }
 {
     grants.iter().any(|grant| is_live_for(grant, key, moment))
 }
 
-/// The live grant with this text of its number.
+/// The live temporary authorization with this text of its number.
 fn with_text<'a>(grants: &'a [GrantRow], id: &Text, moment: u64) -> Option<&'a GrantRow>
     ensures found { option_copied result ≡ find (λ g. bytes_eq id.now (grant_text g.id) && is_live_at moment g) grants.now }
 {
@@ -107,7 +107,7 @@ pub fn revoke_all(
     }
 }
 
-/// Revokes a grant, if the caller may speak for its user.
+/// Revokes a temporary authorization, if the caller may speak for its user.
 fn revoke(
     outputs: &mut OutputList,
     context: &Context,

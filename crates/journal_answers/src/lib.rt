@@ -1,6 +1,6 @@
-//! What each event is answered, by the state of the history before it.
+//! The answers to each event, by the state of the history before it.
 //!
-//! Each definition of `authority_model`'s Answers has a function here, which puts its outputs behind
+//! Each definition of `authority_model`'s Answers has a function here, which adds its outputs to
 //! those that are there.
 #![tactic(auto)]
 

@@ -8,7 +8,7 @@ use check_decision::no;
 use pk_types::NoMemory;
 use std::alloc::Global;
 
-/// Answers a check whose subject or whose agent a world does not list.
+/// Answers a check whose subject or agent a world does not list.
 fn tell_loaded(
     alloc: Global,
     outputs: &mut OutputList,

@@ -1,4 +1,4 @@
-// Single outputs: replies, and what agents and connections are told.
+// Single outputs: replies, and messages to agents and connections.
 ghost use Rattle.std.specs.Prelude.{◌≡◌, ◌++◌, ◌∷◌, [], List, map, OnOk};
 ghost use Rattle.authority_model.specs.declared.message.Message.{Message as TheMessage};
 ghost use Rattle.authority_model.specs.declared.journal.Item.{Item};
@@ -73,7 +73,7 @@ pub fn reply_to(
     )
 }
 
-/// Tells the agent that its challenge is over.
+/// Sends the agent CancelAuthentication.
 pub fn cancel_begin(outputs: &mut OutputList, challenge: &Pending) -> Result<(), NoMemory>
     ensures told { OnOk result (outputs.new ≡ outputs.old ++ cancel_begin_of challenge.now) }
 {
@@ -102,7 +102,7 @@ pub fn reply_agent_gone(
     )
 }
 
-/// Tells each live caller that something changed.
+/// Tells each live connection that something changed.
 pub fn tell_changed(
     alloc: Global,
     outputs: &mut OutputList,
@@ -114,7 +114,7 @@ pub fn tell_changed(
     changed(outputs, callers.as_slice())
 }
 
-/// Tells each of these callers that something changed.
+/// Tells each of these connections that something changed.
 fn changed(outputs: &mut OutputList, callers: &[u32]) -> Result<(), NoMemory>
     ensures told { OnOk result (outputs.new ≡ outputs.old ++ map (λ c. record { to = c; message = TheMessage.Changed }) callers.now) }
 {

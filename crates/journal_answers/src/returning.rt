@@ -1,4 +1,4 @@
-// What the reply of an agent is answered.
+// What follows the reply of an agent.
 ghost use Rattle.std.specs.Prelude.{◌≡◌, ◌++◌, [], List, OnOk, bytes_eq, if◌then◌else◌};
 ghost use Rattle.std.specs.Option.{option_map_or};
 ghost use Rattle.authority_model.specs.declared.journal.Item.{Item};
@@ -15,7 +15,8 @@ use check_decision::{no, return_verdict};
 use pk_types::{NoMemory, Text};
 use std::alloc::Global;
 
-/// Answers the check that opened a challenge, and tells each caller if a grant was made.
+/// Answers the check that opened a challenge, and tells each live connection if a temporary
+/// authorization was made.
 fn tell_return(
     outputs: &mut OutputList,
     context: &Context,
@@ -49,7 +50,7 @@ fn close(outputs: &mut OutputList, context: &Context, challenge: &Pending) -> Re
     tell_return(outputs, context, challenge, verdict)
 }
 
-/// Answers the check whose challenge was sent to this caller with this serial.
+/// Answers the check whose challenge was sent to this connection with this serial.
 pub fn answer_return(
     outputs: &mut OutputList,
     context: &Context,
@@ -65,7 +66,7 @@ pub fn answer_return(
     }
 }
 
-/// Why a challenge ends that the agent answers by an error of this name.
+/// Why a challenge ends where the agent answers with an error of this name.
 fn reason_of(name: &Text) -> Reason
     ensures reason { result ≡ (if bytes_eq name.now cancelled_name then TheReason.Dismissed else TheReason.Challenge) }
 {
@@ -89,8 +90,8 @@ fn fail(
     reply_to(outputs, challenge, Answer::Verdict(verdict))
 }
 
-/// Answers the check whose challenge was sent to this caller with this serial, and which it answers
-/// by an error.
+/// Answers the check whose challenge was sent to this connection with this serial, and which it
+/// answers with an error.
 pub fn answer_error(
     outputs: &mut OutputList,
     context: &Context,

@@ -1,4 +1,4 @@
-// What a call is answered that is about a subject of the caller's own user.
+// The answers to calls about a subject of the caller's own user.
 ghost use Rattle.std.specs.Prelude.{◌≡◌, ◌++◌, List, OnOk};
 ghost use Rattle.authority_model.specs.declared.journal.Item.{Item};
 ghost use Rattle.authority_model.specs.Answers.{for_known};
@@ -40,7 +40,8 @@ fn follow(
     }
 }
 
-/// Answers such a call: the subject has to be known, and the caller may speak for it.
+/// Answers such a call: the subject has to be known, and the caller has to be allowed to speak for
+/// it.
 pub fn answer_subject_call(
     outputs: &mut OutputList,
     context: &Context,

@@ -1,5 +1,5 @@
-// Each public call once, with ample memory. What is wanted is reply_of by the reference manual of polkit
-// and by this project's own interface.
+// Each public call once, with ample memory. The expected replies are those of the reference manual
+// of polkit and of this project's own interface.
 use crate::{load_outputs, outputs};
 use authority_model::{Answer, Call, Entry, ErrorCause, Event, Loaded, Message, OutputList};
 use journal_state::State;
@@ -7,7 +7,7 @@ use pk_types::{List, NoMemory, Subject, Text};
 use std::alloc::Global;
 use std::test::Fail;
 
-/// The state behind the connecting of caller 3 by uid 7.
+/// The state after connection 3 is made by uid 7.
 fn connected(alloc: Global) -> Result<State, NoMemory> {
     let mut state = State::start(alloc);
     let load = Loaded::empty(alloc);
@@ -22,7 +22,7 @@ fn connected(alloc: Global) -> Result<State, NoMemory> {
     Ok(state)
 }
 
-/// The outputs of caller 3's event over the empty load.
+/// The outputs of connection 3's event over the empty load.
 fn outputs_of(alloc: Global, event: &Event) -> Result<OutputList, NoMemory> {
     let state = connected(alloc)?;
     let load = Loaded::empty(alloc);

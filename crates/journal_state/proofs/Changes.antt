@@ -1,14 +1,12 @@
 -- The lists of a history after one more item.
 use Rattle.std.proofs.Common.{◌≡◌, ℕ, ◌+◌, length, Bool, true, false, ◌||◌, not, List, [], ◌∷◌, ◌++◌, refl, ap, ◌∙◌, ◌&&◌, Option, Some, None, Result, Ok, Err, OnOk, IfOk}
 use Rattle.std.specs.Prelude.{if◌then◌else◌, filter, map, option_to_list, option_and_then}
-use Rattle.pk_types.specs.declared.values.Identity.{Identity}
 use Rattle.authority_model.specs.declared.event.Call.{Call}
 use Rattle.authority_model.specs.declared.pending.Pending.{Pending}
 use Rattle.authority_model.specs.Lists.{or_else}
-use Rattle.authority_model.specs.Words.{Bytes}
 use Rattle.authority_model.specs.Cookies.{cookie_text}
 use Rattle.authority_model.specs.Challenges.{pending, opened, opened_count, closes, returns_to, responds, with_answer}
-use Rattle.journal_state.specs.Closed.{cancels_by, closes_by, answer_by, response_of, marked}
+use Rattle.journal_state.specs.Closed.{Response, cancels_by, closes_by, answer_by, response_of, marked}
 use Rattle.authority_model.specs.declared.journal.Item.{Item}
 use Rattle.authority_model.specs.declared.pending.Agent.{Agent}
 use Rattle.authority_model.specs.Peers.{departs, live, is_root, call_in}
@@ -62,7 +60,7 @@ answer_is true None ch = refl
 answer_is false called ch = refl
 
 -- a challenge after an item, by its response
-pub marked_is : (past : List Item) (i : Item) (response : Option (Bytes × Identity)) → response ≡ (if live past i.entry.caller && is_root past i.entry.caller then option_and_then response_of (call_in i.entry.event) else None)
+pub marked_is : (past : List Item) (i : Item) (response : Option Response) → response ≡ (if live past i.entry.caller && is_root past i.entry.caller then option_and_then response_of (call_in i.entry.event) else None)
     → (ch : Pending) → marked response ch ≡ with_answer past i ch
 marked_is past i response is ch =
     ap (λ r. marked r ch) is
@@ -74,7 +72,7 @@ map_alike f g same [] = refl
 map_alike f g same (x ∷ xs) = ap (λ y. y ∷ map f xs) (same x) ∙ ap (λ ys. g x ∷ ys) (map_alike f g same xs)
 
 -- the pending challenges after one more item
-pub pending_next : (past : List Item) (i : Item) (e : Ending) (response : Option (Bytes × Identity)) (rows : List Pending) (made : Option Pending)
+pub pending_next : (past : List Item) (i : Item) (e : Ending) (response : Option Response) (rows : List Pending) (made : Option Pending)
     → IsEnding past i e → response ≡ (if live past i.entry.caller && is_root past i.entry.caller then option_and_then response_of (call_in i.entry.event) else None)
     → rows ≡ pending past → made ≡ opened past i
     → map (marked response) (filter (λ ch. not (closes_by i.entry e ch)) rows) ++ option_to_list made ≡ pending (i ∷ past)

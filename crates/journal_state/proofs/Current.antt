@@ -1,4 +1,4 @@
--- At the last moment and behind it, the grants that are not over at the last moment tell all that those tell that nothing ended.
+-- At the last moment and after it, the temporary authorizations that have not expired at the last moment tell as much as all that nothing ended.
 use Rattle.std.proofs.Common.{◌≡◌, ℕ, ◌≤◌, Bool, true, false, ◌&&◌, not, List, [], ◌∷◌, ◌++◌, refl, ap, sym, ◌∙◌, Option, Some, None, arith}
 use Rattle.std.proofs.lemmas.Bool.Decides.{nat_tests}
 use Rattle.std.proofs.lemmas.List.Elements.{filter-append}
@@ -24,7 +24,7 @@ use Rattle.journal_state.specs.Current.{current}
 use Rattle.journal_state.proofs.Within.{find_within, filter_within, any_within}
 use Rattle.journal_state.proofs.Deciding as deciding
 
--- a grant that is not over at a moment was not over before
+-- a temporary authorization that has not expired at a moment had not expired before
 not_over : (t u : ℕ) (g : GrantRow) → t ≤ u → is_live_at u g ≡ true → is_live_at t g ≡ true
 not_over t u g before live = grind (arith, nat_tests)
 
@@ -38,7 +38,7 @@ second_holds true b is = is
 second_holds false b is = absurd (cc)
 
 module _ (past : List Item) (t : ℕ) (later : last_moment past ≤ t) where
-  -- a test that no grant passes which is over
+  -- a test that no expired temporary authorization passes
   module _ (p : GrantRow → Bool) (live : (g : GrantRow) → p g ≡ true → is_live_at t g ≡ true) where
     holds : (g : GrantRow) → p g ≡ true → is_live_at (last_moment past) g ≡ true
     holds g passes = not_over (last_moment past) t g later (live g passes)
@@ -52,7 +52,7 @@ module _ (past : List Item) (t : ℕ) (later : last_moment past ≤ t) where
     pub current_any : list_any p (current past) ≡ list_any p (kept past)
     current_any = any_within p (is_live_at (last_moment past)) holds (kept past)
 
-  -- the grant that serves
+  -- the temporary authorization that serves
   current_serves : (key : Key) (action : Bytes) → find (serves key action t) (current past) ≡ find (serves key action t) (kept past)
   current_serves key action = current_find (serves key action t) (λ g passes. second_holds (same_key g.key key && bytes_eq g.action action) (is_live_at t g) passes)
 
@@ -83,7 +83,7 @@ module _ (past : List Item) (t : ℕ) (later : last_moment past ≤ t) where
   pub current_made : (n : ℕ) (ch : Pending) → made_by past (current past) n t ch ≡ made_by past (kept past) n t ch
   current_made = deciding.same_made (current past) (kept past) t current_serves past
 
-  -- the live grants of a key
+  -- the live temporary authorizations of a key
   pub current_of_key : (key : Key) → filter (λ g. same_key g.key key && is_live_at t g) (current past) ≡ filter (λ g. same_key g.key key && is_live_at t g) (kept past)
   current_of_key key = current_filter (λ g. same_key g.key key && is_live_at t g) (λ g passes. second_holds (same_key g.key key) (is_live_at t g) passes)
 
@@ -91,15 +91,15 @@ module _ (past : List Item) (t : ℕ) (later : last_moment past ≤ t) where
   pub current_any_of_key : (key : Key) → list_any (λ g. same_key g.key key && is_live_at t g) (current past) ≡ list_any (λ g. same_key g.key key && is_live_at t g) (kept past)
   current_any_of_key key = current_any (λ g. same_key g.key key && is_live_at t g) (λ g passes. second_holds (same_key g.key key) (is_live_at t g) passes)
 
-  -- the live grant of this text
+  -- the live temporary authorization of this text
   pub current_of_text : (id : Bytes) → find (λ g. bytes_eq id (grant_text g.id) && is_live_at t g) (current past) ≡ find (λ g. bytes_eq id (grant_text g.id) && is_live_at t g) (kept past)
   current_of_text id = current_find (λ g. bytes_eq id (grant_text g.id) && is_live_at t g) (λ g passes. second_holds (bytes_eq id (grant_text g.id)) (is_live_at t g) passes)
 
--- a grant is not over at the moment at which it is made
+-- a temporary authorization has not expired at the moment at which it is made
 new_live : (t n : ℕ) (ch : Pending) → is_live_at t (grant_row ch t n) ≡ true
 new_live t n ch = grind (arith, nat_tests)
 
--- the grant that an item makes is not over at its moment
+-- the temporary authorization that an item makes has not expired at its moment
 made_live : (past : List Item) (i : Item) → filter (is_live_at i.entry.moment) (option_to_list (granted past i)) ≡ option_to_list (granted past i)
 made_live past i = by_return (returned past i)
   where
@@ -122,7 +122,7 @@ both_pass p q (x ∷ xs) = go (p x) (q x) refl (both_pass p q xs)
     go false true is rest = ap (λ c. if c then (x ∷ filter p (filter q xs)) else filter p (filter q xs)) is ∙ rest
     go false false is rest = rest
 
--- The grants that are current after one more item: of those before it that are not over at its moment and that it does not end, and the one that it makes.
+-- The temporary authorizations that are current after one more item: those from before it that have not expired at its moment and that it does not end, and the one that it makes.
 pub current_more : (past : List Item) (i : Item) → last_moment past ≤ i.entry.moment → filter (λ g. is_live_at i.entry.moment g && not (ends_grant past g i)) (current past) ++ option_to_list (granted past i) ≡ current (i ∷ past)
 current_more past i later =
     let stays : GrantRow → Bool = λ g. not (ends_grant past g i) in

@@ -1,4 +1,4 @@
--- The decision looks at the grants only for one that serves: where two lists of grants have the same one, it is the same.
+-- The decision looks only for a temporary authorization that serves: where two lists have the same one, it is the same.
 use Rattle.std.proofs.Common.{◌≡◌, ℕ, ◌==◌, false, ◌&&◌, ◌||◌, List, refl, ap, ◌∙◌, Option, Some, None, is_some}
 use Rattle.std.specs.Prelude.{if◌then◌else◌, find, map, option_map, option_and_then}
 use Rattle.std.specs.Option.{option_map_or}

@@ -13,7 +13,7 @@ use Rattle.authority_model.specs.Worlds.{lists_key}
 use Rattle.authority_model.specs.Peers.{call_in}
 use Rattle.authority_model.specs.Agents.{unregister_of}
 use Rattle.authority_model.specs.Subjects.{key_of}
-use Rattle.journal_state.specs.Ended.{is_of, with_path, unregistered_by, unregistered_in}
+use Rattle.journal_state.specs.Ended.{Unregistered, is_of, with_path, unregistered_by, unregistered_in}
 
 -- whether a call unregisters a key and a path, by what it unregisters
 call_ends : (past : List Item) (key : Key) (path : Bytes) (call : Call) → option_map_or (is_of key path) (unregistered_by past call) false ≡ unregister_of past key path call
@@ -23,7 +23,7 @@ call_ends past key path (Call.Unregister subject path') = go (key_of past subjec
     apart true = refl
     apart false = refl
 
-    go : (found : Option Key) → option_map_or (λ (u : Key × Bytes). bytes_eq u.1 path && same_key key u.0) (option_map (with_path path') found) false ≡ (bytes_eq path' path && option_map_or (same_key key) found false)
+    go : (found : Option Key) → option_map_or (λ (u : Unregistered). bytes_eq u.path path && same_key key u.key) (option_map (with_path path') found) false ≡ (bytes_eq path' path && option_map_or (same_key key) found false)
     go None = apart (bytes_eq path' path)
     go (Some k) = refl
 call_ends past key path _ = refl

@@ -1,4 +1,4 @@
--- The live callers, by what is kept of each.
+-- The live connections, by what is kept of each.
 use Rattle.std.proofs.Common.{◌≡◌, ℕ, false, ◌&&◌, not, List, [], ◌∷◌, refl, ap, sym, ◌∙◌, Option, Some, None, is_some}
 use Rattle.std.proofs.lemmas.List.Elements.{All-head, All-tail}
 use Rattle.std.proofs.lemmas.Map.Made.{is_some-lookup}
@@ -18,12 +18,12 @@ use Rattle.journal_state.specs.declared.connections.Connection.{Connection}
 use Rattle.journal_state.specs.Connected.{connection, row_of, Tells, live_rows}
 use Rattle.journal_state.proofs.Rising.{connected_sorted, connected_has}
 
--- who is known has a uid
+-- a connection that is known has a uid
 known_some : (past : List Item) (c : ℕ) (u : Option ℕ) → is_some (option_map (connection past c) u) ≡ is_some u
 known_some past c None = refl
 known_some past c (Some uid) = refl
 
--- a caller of this row is live exactly where it did not depart
+-- a connection with this row is live exactly where it did not depart
 row_lives : (past : List Item) (c : ℕ) (row : Connection) (u : Option ℕ) → option_map (connection past c) u ≡ Some row → (is_some u && not (departed past c)) ≡ not row.departed
 row_lives past c row None is = absurd (cc)
 row_lives past c row (Some uid) is = ap (λ o. option_map_or (λ r. not r.departed) o false) is
@@ -31,7 +31,7 @@ row_lives past c row (Some uid) is = ap (λ o. option_map_or (λ r. not r.depart
 abbrev set_of : List ℕ → BTreeSet ℕ
 set_of ns = record { keys = ns }
 
--- the rows in order are those of who ever connected
+-- the rows in order are those of the connections that were ever made
 numbers_are : (rows : List (ℕ × Connection)) (past : List Item) → IsStrictlySortedBy nat_cmp (keys_of rows) → Tells rows past → keys_of rows ≡ connected past
 numbers_are rows past sorted told = btree_set_from_contains nat_cmp_total (set_of (keys_of rows)) (set_of (connected past)) sorted (connected_sorted past)
     (λ q. sym (is_some-lookup (is_at (nat_cmp q)) rows) ∙ ap (λ o. is_some o) (told q) ∙ known_some past q (uid_of past q) ∙ sym (connected_has past q)) exact_unsigned
@@ -43,6 +43,6 @@ live_are rows past told (e ∷ es) found =
     ap (λ b. if b then e.0 ∷ live_rows es else live_rows es) (sym (row_lives past e.0 e.1 (uid_of past e.0) (sym (told e.0) ∙ All-head (λ e. row_of rows e.0 ≡ Some e.1) e es found)))
     ∙ ap (λ ns. if live past e.0 then e.0 ∷ ns else ns) (live_are rows past told es (All-tail (λ e. row_of rows e.0 ≡ Some e.1) e es found))
 
--- the live callers by rising number are those of the rows
+-- the live connections by rising number are those of the rows
 pub live_rows_are : (rows : List (ℕ × Connection)) (past : List Item) → IsStrictlySortedBy nat_cmp (keys_of rows) → All (λ e. row_of rows e.0 ≡ Some e.1) rows → Tells rows past → live_rows rows ≡ live_connections past
 live_rows_are rows past sorted found told = live_are rows past told rows found ∙ ap (λ ns. filter (live past) ns) (numbers_are rows past sorted told)

@@ -1,4 +1,4 @@
--- What an item revokes, and the grants after it.
+-- What an item revokes, and the temporary authorizations after it.
 use Rattle.std.proofs.Common.{◌≡◌, ℕ, Bool, true, false, ◌&&◌, ◌||◌, not, List, ◌∷◌, ◌++◌, sym, ap, ◌∙◌, Option, length, ◌+◌, ◌≤◌}
 use Rattle.std.specs.Prelude.{filter, option_to_list}
 use Rattle.std.specs.Option.{option_map_or}
@@ -27,11 +27,11 @@ revokes_is past i g entry uid names same lives user called =
     ∙ ap (λ b. b && may_for past entry.caller (uid_of_key g.key) && option_map_or (revoke_of past g) (call_in entry.event) false) (sym lives)
     ∙ ap (λ (e : Entry). live past e.caller && may_for past e.caller (uid_of_key g.key) && option_map_or (revoke_of past g) (call_in e.event) false) (sym same)
 
--- what ends a grant
+-- what ends a temporary authorization
 grant_ends : (past : List Item) (i : Item) (e : Ending) (r : Option Revocation) → IsEnding past i e → ((g : GrantRow) → option_map_or (revoked_by g) r false ≡ revokes past g i) → (g : GrantRow) → ends_row r e g ≡ ends_grant past g i
 grant_ends past i e r is revoked g = ap (λ b. b || ends_key e g.key) (revoked g) ∙ ap (λ b. revokes past g i || b) (is.unlists g.key)
 
--- the grants after one more item
+-- the temporary authorizations after one more item
 pub current_next : (past : List Item) (i : Item) (e : Ending) (r : Option Revocation) (rows : List GrantRow) (new : Option GrantRow) → IsEnding past i e → ((g : GrantRow) → option_map_or (revoked_by g) r false ≡ revokes past g i)
     → last_moment past ≤ i.entry.moment → rows ≡ current past → new ≡ granted past i → filter (λ g. is_live_at i.entry.moment g && not (ends_row r e g)) rows ++ option_to_list new ≡ current (i ∷ past)
 current_next past i e r rows new is revoked later old made_now =
@@ -40,6 +40,6 @@ current_next past i e r rows new is revoked later old made_now =
     ∙ ap (λ xs. xs ++ option_to_list (granted past i)) (filter_alike (λ g. is_live_at i.entry.moment g && not (ends_row r e g)) (λ g. is_live_at i.entry.moment g && not (ends_grant past g i)) (λ g. ap (λ b. is_live_at i.entry.moment g && not b) (grant_ends past i e r is revoked g)) (current past))
     ∙ current_more past i later
 
--- how many grants were made after one more item
+-- how many temporary authorizations were made after one more item
 pub made_next : (past : List Item) (i : Item) (count : ℕ) (new : Option GrantRow) → count ≡ made past → new ≡ granted past i → count + length (option_to_list new) ≡ made (i ∷ past)
 made_next past i count new old made_now = ap (λ o. count + length (option_to_list o)) made_now ∙ ap (λ n. n + length (option_to_list (granted past i))) old

@@ -54,7 +54,7 @@ sorted_put n (m ∷ ms) sorted = go (nat_lt n m) (n == m) refl refl (sorted_put 
     go false true lt eq rest = sorted
     go false false lt eq rest = sorted_more m (insert_rising n ms) (all_put m n ms (greater n m lt eq) (sorted_head nat_cmp m ms sorted)) rest
 
--- who ever connected stands in rising order
+-- the connections that were ever made are in rising order
 pub connected_sorted : (past : List Item) → IsStrictlySortedBy nat_cmp (connected past)
 connected_sorted [] = sorted_none
 connected_sorted (i ∷ past) = go (is_some (uid_given i.entry.event)) (connected_sorted past)
@@ -73,7 +73,7 @@ once : (b c : Bool) → (b || c) ≡ (b || (b || c))
 once true c = refl
 once false c = refl
 
--- one number more stands there
+-- one more number is there
 among_put : (q n : ℕ) (ms : List ℕ) → list_any (is_at (nat_cmp q)) (insert_rising n ms) ≡ (is_eq (nat_cmp q n) || list_any (is_at (nat_cmp q)) ms)
 among_put q n [] = refl
 among_put q n (m ∷ ms) = go (nat_lt n m) (n == m) refl (among_put q n ms)
@@ -90,7 +90,7 @@ same_turned q c = same_number q c ∙ turned_number q c
     turned_number : (a b : ℕ) → (a == b) ≡ (b == a)
     turned_number a b = grind (arith, nat_tests)
 
--- who ever connected has a uid
+-- each connection that was ever made has a uid
 pub connected_has : (past : List Item) (q : ℕ) → list_any (is_at (nat_cmp q)) (connected past) ≡ is_some (uid_of past q)
 connected_has [] q = refl
 connected_has (i ∷ past) q = go (uid_given i.entry.event) (uid_of past q) (i.entry.caller == q) (same_turned q i.entry.caller) (connected_has past q)

@@ -1,10 +1,11 @@
--- What is known of a caller after one more item.
+-- What is known of a connection after one more item.
 use Rattle.std.proofs.Common.{◌≡◌, ℕ, ◌==◌, Bool, true, false, ◌&&◌, ◌||◌, not, List, [], ◌∷◌, refl, ap, sym, ◌∙◌, Option, Some, None, is_some, cond, arith}
 use Rattle.std.proofs.lemmas.Bool.Decides.{Decides-eqb, nat_tests}
 use Rattle.std.specs.Ordering.{nat_cmp, is_eq}
 use Rattle.std.specs.Prelude.{if◌then◌else◌, option_map, option_and_then}
 use Rattle.std.specs.Option.{option_map_or}
 use Rattle.authority_model.specs.declared.journal.Item.{Item}
+use Rattle.authority_model.specs.declared.process_id.ProcessId.{ProcessId}
 use Rattle.authority_model.specs.declared.world.World.{World}
 use Rattle.authority_model.specs.Lists.{or_else, when}
 use Rattle.authority_model.specs.Worlds.{process_row}
@@ -22,30 +23,30 @@ departed_unknown (i ∷ past) c e = go (uid_of past c) refl e (departed_unknown 
     go None is e ih = ap (λ b. b || false) (ih is)
     go (Some uid) is e ih = absurd (cc)
 
--- the process that an item of a caller of this uid announces in a world
-abbrev accepted_of : World → Option ℕ → Bool → Bool → Option (ℕ × ℕ) → Option (ℕ × ℕ)
-accepted_of world u d by named = option_and_then (λ p. when (by && (is_some u && not d && option_map_or (λ q. option_map_or (λ own. (own == q.uid) || (own == 0)) u false) (process_row world p.0 p.1) false)) p) named
+-- the process that an item of a connection of this uid announces in a world
+abbrev accepted_of : World → Option ℕ → Bool → Bool → Option ProcessId → Option ProcessId
+accepted_of world u d by named = option_and_then (λ p. when (by && (is_some u && not d && option_map_or (λ q. option_map_or (λ own. (own == q.uid) || (own == 0)) u false) (process_row world p.pid p.start) false)) p) named
 
 -- who never connected has announced nothing
 pub announced_unknown : (past : List Item) (c : ℕ) → uid_of past c ≡ None → last_announced past c ≡ None
 announced_unknown [] c e = refl
 announced_unknown (i ∷ past) c e = go (uid_of past c) refl e (is_by c i) (option_and_then process_named (call_in i.entry.event)) (announced_unknown past c)
   where
-    go : (u : Option ℕ) → uid_of past c ≡ u → or_else u (connects c i) ≡ None → (by : Bool) (named : Option (ℕ × ℕ)) → (uid_of past c ≡ None → last_announced past c ≡ None) → or_else (accepted_of (world_of past) u (departed past c) by named) (last_announced past c) ≡ None
+    go : (u : Option ℕ) → uid_of past c ≡ u → or_else u (connects c i) ≡ None → (by : Bool) (named : Option ProcessId) → (uid_of past c ≡ None → last_announced past c ≡ None) → or_else (accepted_of (world_of past) u (departed past c) by named) (last_announced past c) ≡ None
     go None is e true (Some p) ih = ih is
     go None is e false (Some p) ih = ih is
     go None is e by None ih = ih is
     go (Some uid) is e by named ih = absurd (cc)
 
 -- a row of these parts
-abbrev row_with : Bool → Option (ℕ × ℕ) → ℕ → Connection
+abbrev row_with : Bool → Option ProcessId → ℕ → Connection
 row_with d n uid = record { uid = uid; departed = d; announced = n }
 
--- What is known of a caller after one more item: after its own event its next row, and else what was known.
+-- What is known of a connection after one more item: after its own event its next row, and else what was known.
 pub known_step : (past : List Item) (i : Item) (c : ℕ) → known (i ∷ past) c ≡ (if is_by c i then row_after (world_of past) (known past c) (uid_given i.entry.event) (is_depart i.entry.event) (option_and_then process_named (call_in i.entry.event)) else known past c)
 known_step past i c = go (world_of past) (uid_of past c) (departed past c) (last_announced past c) (is_by c i) (uid_given i.entry.event) (is_depart i.entry.event) (option_and_then process_named (call_in i.entry.event)) (departed_unknown past c) (announced_unknown past c)
   where
-    go : (world : World) (u : Option ℕ) (d : Bool) (n : Option (ℕ × ℕ)) (by : Bool) (given : Option ℕ) (ends : Bool) (named : Option (ℕ × ℕ))
+    go : (world : World) (u : Option ℕ) (d : Bool) (n : Option ProcessId) (by : Bool) (given : Option ℕ) (ends : Bool) (named : Option ProcessId)
         → (u ≡ None → d ≡ false) → (u ≡ None → n ≡ None)
         → option_map (row_with (d || (is_some u && (by && ends))) (or_else (accepted_of world u d by named) n)) (or_else u (if by then given else None))
         ≡ (if by then row_after world (option_map (row_with d n) u) given ends named else option_map (row_with d n) u)

@@ -1,4 +1,4 @@
--- A list of which only those elements are left that pass a second test, which holds wherever the first does: the first test tells the same of what is left as of all.
+-- A list is filtered by a second test, which holds wherever the first does: the first test tells the same of what is left as of all.
 use Rattle.std.proofs.Common.{◌≡◌, Bool, true, false, ◌||◌, List, [], ◌∷◌, refl, ap, ◌∙◌, Some}
 use Rattle.std.specs.Prelude.{if◌then◌else◌, filter, find}
 use Rattle.std.specs.List.{list_any}

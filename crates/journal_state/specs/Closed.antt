@@ -12,7 +12,7 @@ use Rattle.authority_model.specs.Cookies.{cookie_text}
 use Rattle.authority_model.specs.Peers.{call_in}
 use Rattle.authority_model.specs.Challenges.{serial_ended, cancels}
 use Rattle.journal_state.specs.declared.ending.Ending.{Ending}
-use Rattle.journal_state.specs.declared.response.Response.{Response}
+use Rattle.journal_state.specs.declared.response.Response.{Response as BorrowedResponse}
 use Rattle.journal_state.specs.Ended.{ends_caller, ends_registration, ends_key}
 
 -- whether an entry is the agent's reply to a challenge
@@ -27,19 +27,24 @@ cancels_by entry ch = (entry.caller == ch.asker) && option_map_or (cancels ch.ca
 abbrev pub closes_by : Entry → Ending → Pending → Bool
 closes_by entry e ch = returns_by entry ch || cancels_by entry ch || ends_caller e ch.asker || ends_caller e ch.agent || ends_registration e ch.agent ch.agent_key ch.agent_path || ends_key e ch.key || ends_key e ch.agent_key
 
--- a cookie's text and an identity, where they are borrowed
-abbrev pub response_seen : Response → Bytes × Identity
-response_seen r = (r.cookie.now, r.identity)
+-- A response: the cookie's text, and the identity that was authenticated.
+pub record Response : Type 0 where
+  pub cookie : Bytes
+  pub identity : Identity
 
--- the cookie's text and the identity of a response
-abbrev pub response_of : Call → Option (Bytes × Identity)
-response_of (Call.Respond cookie identity) = Some (cookie, identity)
+-- the response that one with a borrowed cookie stands for
+abbrev pub response_seen : BorrowedResponse → Response
+response_seen r = record { cookie = r.cookie.now; identity = r.identity }
+
+-- the response in a call
+abbrev pub response_of : Call → Option Response
+response_of (Call.Respond cookie identity) = Some (record { cookie = cookie; identity = identity })
 response_of _ = None
 
 -- the identity with which a response answers a challenge
-abbrev pub answer_by : Pending → Bytes × Identity → Option Identity
-answer_by ch r = when (bytes_eq (cookie_text ch.cookie) r.0 && any_of (same_identity r.1) ch.identities) r.1
+abbrev pub answer_by : Pending → Response → Option Identity
+answer_by ch r = when (bytes_eq (cookie_text ch.cookie) r.cookie && any_of (same_identity r.identity) ch.identities) r.identity
 
 -- a challenge after a response that is accepted
-abbrev pub marked : Option (Bytes × Identity) → Pending → Pending
+abbrev pub marked : Option Response → Pending → Pending
 marked response ch = record ch { answered = or_else ch.answered (option_and_then (answer_by ch) response) }

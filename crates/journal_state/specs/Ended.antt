@@ -12,31 +12,36 @@ use Rattle.authority_model.specs.Worlds.{lists_key}
 use Rattle.authority_model.specs.Peers.{departs, call_in}
 use Rattle.authority_model.specs.Agents.{unregisters, unlists}
 use Rattle.authority_model.specs.Subjects.{key_of}
-use Rattle.journal_state.specs.declared.ending.Unregistered.{Unregistered}
+use Rattle.journal_state.specs.declared.ending.Unregistered.{Unregistered as BorrowedUnregistered}
 use Rattle.journal_state.specs.declared.ending.Ending.{Ending}
 
--- a key and a path, where they are borrowed
-abbrev pub unregistered_seen : Unregistered → Key × Bytes
-unregistered_seen u = (key_seen u.key, u.path.now)
+-- A registration that is taken back: its key and its path.
+pub record Unregistered : Type 0 where
+  pub key : Key
+  pub path : Bytes
+
+-- the same, where its texts are borrowed
+abbrev pub unregistered_seen : BorrowedUnregistered → Unregistered
+unregistered_seen u = record { key = key_seen u.key; path = u.path.now }
 
 -- a key with a path
-abbrev pub with_path : Bytes → Key → Key × Bytes
-with_path path key = (key, path)
+abbrev pub with_path : Bytes → Key → Unregistered
+with_path path key = record { key = key; path = path }
 
 -- the key and the path that a call unregisters after a history
-abbrev pub unregistered_by : List Item → Call → Option (Key × Bytes)
+abbrev pub unregistered_by : List Item → Call → Option Unregistered
 unregistered_by past (Call.Unregister subject path) = option_map (with_path path) (key_of past subject)
 unregistered_by past _ = None
 
 -- the same of an event
-abbrev pub unregistered_in : List Item → Event → Option (Key × Bytes)
+abbrev pub unregistered_in : List Item → Event → Option Unregistered
 unregistered_in past event = option_and_then (unregistered_by past) (call_in event)
 
 -- whether a registration has this key and this path
-abbrev pub is_of : Key → Bytes → Key × Bytes → Bool
-is_of key path u = bytes_eq u.1 path && same_key key u.0
+abbrev pub is_of : Key → Bytes → Unregistered → Bool
+is_of key path u = bytes_eq u.path path && same_key key u.key
 
--- whether the connection of a caller ends
+-- whether a connection ends
 abbrev pub ends_caller : Ending → ℕ → Bool
 ends_caller e c = (e.caller == c) && e.departs
 

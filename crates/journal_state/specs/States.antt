@@ -9,7 +9,7 @@ use Rattle.journal_state.specs.Connected.{Tells}
 use Rattle.journal_state.specs.Counted.{Counts}
 use Rattle.journal_state.specs.Current.{current}
 
--- A state is that of a history: it tells of each caller what the history says and how many outputs it was sent, and has the registrations in force, the pending challenges and how many were opened, and the grants that nothing ended and that are not over, and how many were made.
+-- A state is that of a history: it tells of each connection what the history says and how many outputs it was sent, and has the registrations in force, the pending challenges and how many were opened, and the temporary authorizations that nothing ended and that have not expired, and how many were made.
 pub record IsStateOf (past : List Item) (s : State) : Type 0 where
   pub connections : Tells s.connections past
   pub sent : Counts s.sent past

@@ -134,7 +134,7 @@ fn change(
     }
 }
 
-/// The challenge of which a caller was sent the Begin with this serial, among these.
+/// The challenge among these whose Begin was sent to this connection with this serial.
 fn find(rows: &[Pending], caller: u32, serial: u32) -> Option<&Pending>
     ensures found { option_copied result ≡ find (λ ch. (ch.agent == caller) && (ch.agent_serial == serial)) rows.now }
 {
@@ -168,7 +168,7 @@ impl Challenges {
         self.opened
     }
 
-    /// The pending challenge whose Begin was sent to this caller with this serial.
+    /// The pending challenge whose Begin was sent to this connection with this serial.
     pub fn at_agent(&self, caller: u32, serial: u32) -> Option<&Pending>
         ensures found { (past : List Item) → self.now.items ≡ pending past → option_copied result ≡ at_agent past caller serial }
     {

@@ -1,4 +1,4 @@
-// Who connected, and what each connection announced.
+// Which connections were made, and what each announced.
 ghost use Rattle.std.specs.Prelude.{◌≡◌, ◌∷◌, [], List, Option, Some, OnOk, OnErr, IfOk, option_and_then};
 ghost use Rattle.std.specs.List.{All};
 ghost use Rattle.std.specs.Ordering.{nat_cmp};
@@ -10,26 +10,26 @@ ghost use Rattle.authority_model.specs.Lists.{when};
 ghost use Rattle.authority_model.specs.Peers.{uid_of, live, announced, is_root, may_for, live_connections, uid_given, is_depart, call_in, process_named};
 ghost use Rattle.journal_state.specs.Connected.{Tells, row_of, row_after, may_announce, live_rows};
 
-use authority_model::{Call, Entry, Event, World};
+use authority_model::{Call, Entry, Event, ProcessId, World};
 use pk_types::NoMemory;
 use std::alloc::Global;
 use std::collections::BTreeMap;
 use std::marker::Model;
 
-/// What is known of a caller that connected.
+/// What is known of a connection.
 #[derive(Clone, Copy, Debug, PartialEq, Eq)]
 pub struct Connection {
     /// The uid of its first Connect.
     pub uid: u32,
     /// Whether it departed after that.
     pub departed: bool,
-    /// The pid and the start of the process that it announced last, where that was accepted.
-    pub announced: Option<(u32, u64)>,
+    /// The process that it announced last, where that was accepted.
+    pub announced: Option<ProcessId>,
 }
 
-/// The callers that ever connected, by rising number, with what is known of each.
+/// The connections that were ever made, by rising number, with what is known of each.
 ///
-/// A caller that departed stays, so that a second Connect of it makes no connection.
+/// A connection that departed stays, so that a second Connect of it has no effect.
 #[derive(Drop)]
 pub struct Connections {
     rows: BTreeMap<u32, Connection>,
@@ -55,17 +55,20 @@ fn uid_in(event: &Event) -> Option<u32>
 }
 
 /// The process that a call announces.
-fn process_in(call: &Call) -> Option<(u32, u64)>
+fn process_in(call: &Call) -> Option<ProcessId>
     ensures process { result ≡ process_named call.now }
 {
     match call {
-        Call::Announce { pid, start } => Some((*pid, *start)),
+        Call::Announce { pid, start } => Some(ProcessId {
+            pid: *pid,
+            start: *start,
+        }),
         _ => None,
     }
 }
 
 /// The process that an event announces.
-fn process_of(event: &Event) -> Option<(u32, u64)>
+fn process_of(event: &Event) -> Option<ProcessId>
     ensures process { result ≡ option_and_then process_named (call_in event.now) }
 {
     match event {
@@ -74,32 +77,32 @@ fn process_of(event: &Event) -> Option<(u32, u64)>
     }
 }
 
-/// Whether a caller of this row may announce a process.
-fn may_announce(world: &World, row: Connection, pid: u32, start: u64) -> bool
-    ensures may { result ≡ may_announce world.now row (pid, start) }
+/// Whether a connection with this row may announce a process.
+fn may_announce(world: &World, row: Connection, process: ProcessId) -> bool
+    ensures may { result ≡ may_announce world.now row process }
 {
     if row.departed {
         return false;
     }
-    match world.process(pid, start) {
+    match world.process(process.pid, process.start) {
         Some(found) => row.uid == found.uid || row.uid == 0,
         None => false,
     }
 }
 
-/// The process that an event of a caller of this row announces, where that is accepted.
-fn accepted(world: &World, row: Connection, event: &Event) -> Option<(u32, u64)>
+/// The process that an event of a connection with this row announces, where that is accepted.
+fn accepted(world: &World, row: Connection, event: &Event) -> Option<ProcessId>
     ensures process { result ≡ option_and_then (λ p. when (may_announce world.now row p) p) (option_and_then process_named (call_in event.now)) }
 {
-    let (pid, start) = process_of(event)?;
-    if may_announce(world, row, pid, start) {
-        Some((pid, start))
+    let process = process_of(event)?;
+    if may_announce(world, row, process) {
+        Some(process)
     } else {
         None
     }
 }
 
-/// The row of a caller after its own event.
+/// The row of a connection after its own event.
 fn row_after(world: &World, row: Option<Connection>, event: &Event) -> Option<Connection>
     ensures row { result ≡ row_after world.now row (uid_given event.now) (is_depart event.now) (option_and_then process_named (call_in event.now)) }
 {
@@ -120,7 +123,7 @@ fn row_after(world: &World, row: Option<Connection>, event: &Event) -> Option<Co
     }
 }
 
-/// The callers whose connections have not ended, in the order of the rows.
+/// The connections that have not ended, in the order of the rows.
 fn live_in(alloc: Global, rows: &BTreeMap<u32, Connection>) -> Result<Vec<u32>, NoMemory>
     ensures live { IfOk result (λ v. v.items ≡ live_rows rows.now.entries) }
     ensures ordered { IsOrdered nat_cmp rows.now }
@@ -145,14 +148,14 @@ impl Connections {
         }
     }
 
-    /// What is known of a caller, and `None` exactly where it never connected.
+    /// What is known of a connection, and `None` exactly where it never connected.
     pub fn row(&self, caller: u32) -> Option<Connection>
         ensures row { result ≡ row_of self.now caller }
     {
         self.rows.get(&caller).copied()
     }
 
-    /// The uid of a caller: that of its first Connect.
+    /// The uid of a connection: that of its first Connect.
     pub fn uid(&self, caller: u32) -> Option<u32>
         ensures uid { (past : List Item) → Tells self.now past → result ≡ uid_of past caller }
     {
@@ -162,7 +165,7 @@ impl Connections {
         }
     }
 
-    /// Whether a caller is live: it connected, and has not departed since.
+    /// Whether a connection is live: it connected, and has not departed since.
     pub fn is_live(&self, caller: u32) -> bool
         ensures live { (past : List Item) → Tells self.now past → result ≡ live past caller }
     {
@@ -172,7 +175,7 @@ impl Connections {
         }
     }
 
-    /// Whether a caller's uid is this one, or 0.
+    /// Whether a connection's uid is this one, or 0.
     pub fn speaks_for(&self, caller: u32, uid: u32) -> bool
         ensures may { (past : List Item) → Tells self.now past → result ≡ may_for past caller uid }
     {
@@ -182,7 +185,7 @@ impl Connections {
         }
     }
 
-    /// Whether a caller's uid is 0.
+    /// Whether a connection's uid is 0.
     pub fn is_root(&self, caller: u32) -> bool
         ensures root { (past : List Item) → Tells self.now past → result ≡ is_root past caller }
     {
@@ -192,8 +195,8 @@ impl Connections {
         }
     }
 
-    /// The pid and the start of the process that a live caller announced.
-    pub fn announced(&self, caller: u32) -> Option<(u32, u64)>
+    /// The process that a live connection announced.
+    pub fn announced(&self, caller: u32) -> Option<ProcessId>
         ensures announced { (past : List Item) → Tells self.now past → result ≡ announced past caller }
     {
         match self.row(caller) {
@@ -202,7 +205,7 @@ impl Connections {
         }
     }
 
-    /// The live callers, by rising number.
+    /// The live connections, by rising number.
     pub fn live_connections(&self, alloc: Global) -> Result<Vec<u32>, NoMemory>
         ensures live { (past : List Item) → Tells self.now past → IfOk result (λ callers. callers.items ≡ live_connections past) }
     {

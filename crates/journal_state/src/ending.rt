@@ -27,7 +27,7 @@ pub struct Ending<'a> {
     pub departs: bool,
     /// What the caller unregisters.
     pub unregisters: Option<Unregistered<'a>>,
-    /// The world of a load: a key that it does not list is gone.
+    /// The world of a load. A key that it does not list is gone.
     pub loads: Option<&'a World>,
 }
 
@@ -97,7 +97,7 @@ pub fn ending_of<'a>(
 }
 
 impl Ending<'_> {
-    /// Whether the connection of a caller ends.
+    /// Whether a connection ends.
     pub fn is_of_caller(self, caller: u32) -> bool
         ensures ends { result ≡ ends_caller self.entry caller }
     {

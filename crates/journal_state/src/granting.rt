@@ -1,4 +1,4 @@
-// The grant that an item makes.
+// The temporary authorization that an item makes.
 ghost use Rattle.std.specs.Prelude.{◌≡◌, ◌≤◌, ◌^◌, List, IfOk, option_and_then, option_copied};
 ghost use Rattle.authority_model.specs.declared.journal.Item.{Item};
 ghost use Rattle.authority_model.specs.Items.{loaded_of};
@@ -25,7 +25,7 @@ fn returned<'a>(challenges: &'a Challenges, entry: &Entry) -> Option<&'a Pending
     }
 }
 
-/// The grant of this number that a challenge makes at a moment.
+/// The temporary authorization of this number that a challenge makes at a moment.
 fn row_of(challenge: &Pending, moment: u64, id: u64) -> Result<GrantRow, NoMemory>
     requires moment { moment ≤ 2 ^ 62 }
     ensures row { IfOk result (λ row. row ≡ grant_row challenge.now moment id) }
@@ -39,7 +39,7 @@ fn row_of(challenge: &Pending, moment: u64, id: u64) -> Result<GrantRow, NoMemor
     })
 }
 
-/// The grant that the return of a challenge makes at a moment.
+/// The temporary authorization that the return of a challenge makes at a moment.
 fn made_by(
     grants: &Grants,
     in_force: &Loaded,
@@ -62,7 +62,8 @@ fn made_by(
     }
 }
 
-/// The grant that an item of this entry makes, by the state and the load in force before it.
+/// The temporary authorization that an item of this entry makes, by the state and the load in force
+/// before it.
 pub fn granted(
     state: &State,
     in_force: &Loaded,

@@ -1,4 +1,4 @@
-// The grants that nothing ended and that are not over.
+// The temporary authorizations that nothing ended and that have not expired.
 ghost use Rattle.std.specs.Prelude.{◌≡◌, ◌+◌, ◌<◌, ◌≤◌, ◌++◌, ◌&&◌, [], not, false, List, filter, length, option_to_list, vec_len, vec_capacity, OnOk, OnErr};
 ghost use Rattle.std.specs.Option.{option_map_or};
 ghost use Rattle.authority_model.specs.Deciding.{is_live_at};
@@ -15,8 +15,8 @@ use pk_types::NoMemory;
 use std::alloc::Global;
 use std::marker::Model;
 
-/// The grants that nothing ended and that are not over at the last moment, by rising number, and how
-/// many were ever made.
+/// The temporary authorizations that nothing ended and that have not expired at the last moment, by
+/// rising number, and how many were ever made.
 #[derive(Drop)]
 pub struct Grants {
     rows: Vec<GrantRow>,
@@ -33,7 +33,7 @@ impl Model for Grants {
     ghost view = { λ a. record { items = a.rows.items; room = vec_capacity a.rows - vec_len a.rows; count = a.made } };
 }
 
-/// Whether a revocation, where there is one, revokes a grant.
+/// Whether a revocation, where there is one, revokes a temporary authorization.
 fn is_revoked(revocation: Option<Revocation>, row: &GrantRow) -> bool
     ensures revoked { result ≡ option_map_or (revoked_by row.now) revocation.entry false }
 {
@@ -43,21 +43,21 @@ fn is_revoked(revocation: Option<Revocation>, row: &GrantRow) -> bool
     }
 }
 
-/// Whether a grant ends.
+/// Whether a temporary authorization ends.
 fn ends(revocation: Option<Revocation>, ending: Ending, row: &GrantRow) -> bool
     ensures ends { result ≡ ends_row revocation.entry ending.entry row.now }
 {
     is_revoked(revocation, row) || ending.is_of_key(&row.key)
 }
 
-/// Whether a grant is not over at a moment, and does not end.
+/// Whether a temporary authorization has not expired at a moment, and does not end.
 fn stays(moment: u64, revocation: Option<Revocation>, ending: Ending, row: &GrantRow) -> bool
     ensures stays { result ≡ (is_live_at moment row.now && not (ends_row revocation.entry ending.entry row.now)) }
 {
     row.is_live_at(moment) && !ends(revocation, ending, row)
 }
 
-/// Takes out the grants that are over at a moment, and those that end.
+/// Takes out the temporary authorizations that have expired at a moment, and those that end.
 fn take_out(rows: &mut Vec<GrantRow>, moment: u64, revocation: Option<Revocation>, ending: Ending)
     ensures kept { rows.new.items ≡ filter (λ g. is_live_at moment g && not (ends_row revocation.entry ending.entry g)) rows.old.items }
     ensures room { vec_capacity rows.new ≡ vec_capacity rows.old }
@@ -66,8 +66,8 @@ fn take_out(rows: &mut Vec<GrantRow>, moment: u64, revocation: Option<Revocation
     rows.retain(|row| stays(moment, revocation, ending, row));
 }
 
-/// Takes out the grants that are over at a moment, and those that end, and puts one that is made at
-/// the end.
+/// Takes out the temporary authorizations that have expired at a moment, and those that end, and
+/// puts one that is made at the end.
 fn change(
     rows: &mut Vec<GrantRow>,
     moment: u64,
@@ -85,7 +85,7 @@ fn change(
 }
 
 impl Grants {
-    /// The grants of the empty history. It takes no memory.
+    /// The temporary authorizations of the empty history. It takes no memory.
     pub fn start(alloc: Global) -> Grants
         ensures empty { result.items ≡ current [] }
         ensures none { result.count ≡ made [] }
@@ -96,26 +96,28 @@ impl Grants {
         }
     }
 
-    /// The grants, by rising number. None of them was over at the moment of the last change.
+    /// The temporary authorizations, by rising number. None of them had expired at the moment of
+    /// the last change.
     pub fn as_slice(&self) -> &[GrantRow]
         ensures rows { result.now ≡ self.now.items }
     {
         self.rows.as_slice()
     }
 
-    /// How many grants were made.
+    /// How many temporary authorizations were made.
     pub fn made(&self) -> u64
         ensures made { result ≡ self.now.count }
     {
         self.made
     }
 
-    /// The allocator that the grants were made with.
+    /// The allocator that the temporary authorizations were made with.
     pub(crate) fn allocator(&self) -> Global {
         *self.rows.allocator()
     }
 
-    /// Takes room for one more grant. A refusal leaves the grants as they were.
+    /// Takes room for one more temporary authorization. A refusal leaves the temporary
+    /// authorizations as they were.
     pub fn try_reserve(&mut self) -> Result<(), NoMemory>
         ensures items { self.new.items ≡ self.old.items }
         ensures count { self.new.count ≡ self.old.count }
@@ -128,8 +130,8 @@ impl Grants {
         Ok(())
     }
 
-    /// Takes out the grants that are over at a moment, and those that end, and puts one that is made
-    /// at the end. It takes no memory.
+    /// Takes out the temporary authorizations that have expired at a moment, and those that end,
+    /// and puts one that is made at the end. It takes no memory.
     pub fn change(
         &mut self,
         moment: u64,

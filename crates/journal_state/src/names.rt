@@ -1,11 +1,11 @@
-// The caller that a bus name names.
+// The connection that a bus name names.
 ghost use Rattle.std.specs.Prelude.{◌≡◌};
 ghost use Rattle.authority_model.specs.Words.{number_of};
 ghost use Rattle.authority_model.specs.Subjects.{caller_named};
 
 use pk_types::{Text, number_up_to};
 
-/// The number of 32 bits that a word of decimal digits names.
+/// The 32-bit number that a word of decimal digits names.
 fn number(word: &[u8]) -> Option<u32>
     ensures number { result ≡ number_of word.now }
 {
@@ -15,7 +15,7 @@ fn number(word: &[u8]) -> Option<u32>
     }
 }
 
-/// The caller that a bus name names: `:1.` and its number.
+/// The connection that a bus name names: `:1.` and its number.
 pub fn caller_of(name: &Text) -> Option<u32>
     ensures caller { result ≡ caller_named name.now }
 {

@@ -110,6 +110,7 @@ fn challenge(
 ) -> Result<Pending, NoMemory>
     ensures challenge { (past : List Item) (i : Item) → IsStateOf past state.now → IsOpenedBy past i opening.entry → IfOk result (λ ch. ch ≡ challenge_of past i (asked_seen opening.entry.asked) (begun_seen opening.entry.begun) (facts_seen facts.entry) value agent.now uid) }
 {
+    let (value, source) = value;
     Ok(Pending {
         entry: opening.place,
         asker: opening.asker,
@@ -119,8 +120,8 @@ fn challenge(
         cancel: opening.asked.cancel.try_copy()?,
         key: facts.key.try_own()?,
         action: opening.asked.action.try_copy()?,
-        value: value.0,
-        source: value.1,
+        value,
+        source,
         cookie: opening.begun.cookie,
         identities: opening.begun.identities.try_copy()?,
         agent: agent.caller,

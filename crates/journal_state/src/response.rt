@@ -18,7 +18,7 @@ pub struct Response<'a> {
     pub identity: Identity,
 }
 
-/// The response that a call is.
+/// The response that a call makes.
 fn response_of(call: &Call) -> Option<Response<'_>>
     ensures response { option_map response_seen result ≡ response_of call.now }
 {
@@ -31,7 +31,7 @@ fn response_of(call: &Call) -> Option<Response<'_>>
     }
 }
 
-/// The response that an entry is, if its caller may give one: it is live, and its uid is 0.
+/// The response that an entry makes, if its caller may give one: it is live, and its uid is 0.
 pub fn response_in<'a>(connections: &Connections, entry: &'a Entry) -> Option<Response<'a>>
     ensures response { (past : List Item) → Tells connections.now past → option_map response_seen result ≡ (if live past entry.now.caller && is_root past entry.now.caller then option_and_then response_of (call_in entry.now.event) else None) }
 {
@@ -66,7 +66,7 @@ pub fn mark(row: &mut Pending, response: Response)
     }
 }
 
-/// The same of each challenge.
+/// The same for each challenge.
 pub fn mark_all(rows: &mut Vec<Pending>, response: Response)
     ensures marked { rows.new.items ≡ map (marked (Some (response_seen response.entry))) rows.old.items }
     ensures room { vec_capacity rows.new ≡ vec_capacity rows.old }

@@ -14,14 +14,14 @@ use crate::subjects::key_of;
 use authority_model::{Call, Entry, Event, GrantRow, KeyRef, World};
 use pk_types::Text;
 
-/// Which grants are revoked: that of a text, or all of a key.
+/// Which temporary authorizations are revoked: that of a text, or all of a key.
 #[derive(Clone, Copy)]
 pub enum Revoked<'a> {
     One(&'a Text),
     AllOf(KeyRef<'a>),
 }
 
-/// Which grants are revoked, and by which user.
+/// Which temporary authorizations are revoked, and by which user.
 #[derive(Clone, Copy)]
 pub struct Revocation<'a> {
     pub uid: u32,
@@ -87,7 +87,7 @@ pub fn revocation_of<'a>(
 }
 
 impl Revoked<'_> {
-    /// Whether a grant is among those that are revoked.
+    /// Whether a temporary authorization is among those that are revoked.
     fn names(self, row: &GrantRow) -> bool
         ensures names { result ≡ names_grant row.now self.entry }
     {
@@ -99,7 +99,7 @@ impl Revoked<'_> {
 }
 
 impl Revocation<'_> {
-    /// Whether a grant is revoked.
+    /// Whether a temporary authorization is revoked.
     pub fn is_of(self, row: &GrantRow) -> bool
         ensures revoked { result ≡ revoked_by row.now self.entry }
     {

@@ -1,4 +1,4 @@
-// How many outputs each caller was sent.
+// How many outputs each connection was sent.
 ghost use Rattle.std.specs.Prelude.{◌≡◌, ◌+◌, ◌==◌, if◌then◌else◌, ◌∷◌, [], ℕ, List, OnOk, IfOk, length};
 ghost use Rattle.authority_model.specs.declared.journal.Item.{Item};
 ghost use Rattle.authority_model.specs.Items.{sent, count_to};
@@ -10,7 +10,7 @@ use std::alloc::Global;
 use std::collections::BTreeMap;
 use std::marker::Model;
 
-/// How many outputs each caller was sent. A caller that has no count was sent none.
+/// How many outputs each connection was sent. A connection that has no count was sent none.
 #[derive(Drop)]
 pub struct SentCounts {
     counts: BTreeMap<u32, u64>,
@@ -24,7 +24,7 @@ impl Model for SentCounts {
     ghost view = { λ a. a.counts.entries };
 }
 
-/// The count of a caller, or 0.
+/// The count of a connection, or 0.
 fn count(counts: &BTreeMap<u32, u64>, caller: u32) -> u64
     ensures count { result ≡ sent_in counts.now.entries caller }
 {
@@ -34,7 +34,7 @@ fn count(counts: &BTreeMap<u32, u64>, caller: u32) -> u64
     }
 }
 
-/// Gives a caller a count of 0, if it has none, and refuses if so many more can't be counted.
+/// Gives a connection a count of 0, if it has none, and refuses if so many more can't be counted.
 fn prepare(counts: &mut BTreeMap<u32, u64>, caller: u32, more: u64) -> Result<(), NoMemory>
     ensures same { (c : ℕ) → sent_in counts.new.entries c ≡ sent_in counts.old.entries c }
     ensures stays { (c : ℕ) → CanCount counts.old.entries more c → CanCount counts.new.entries more c }
@@ -68,7 +68,7 @@ fn prepare_all(
     Ok(())
 }
 
-/// Counts one output to a caller. It takes no memory.
+/// Counts one output to a connection. It takes no memory.
 fn add_one(counts: &mut BTreeMap<u32, u64>, caller: u32)
     requires { CanCount counts.old.entries 1 caller }
     ensures added { (c : ℕ) → sent_in counts.new.entries c ≡ sent_in counts.old.entries c + (if caller == c then 1 else 0) }
@@ -98,30 +98,44 @@ impl SentCounts {
     /// The counts of the empty history. It takes no memory.
     pub fn start(alloc: Global) -> SentCounts
         ensures empty { Counts result [] }
+        ensures none { (c : ℕ) → sent_in result c ≡ 0 }
     {
         SentCounts {
             counts: BTreeMap::new(alloc),
         }
     }
 
-    /// How many outputs a caller was sent.
+    /// How many outputs a connection was sent.
     pub fn count(&self, caller: u32) -> u64
         ensures count { (past : List Item) → Counts self.now past → result ≡ sent past caller }
     {
         count(&self.counts, caller)
     }
 
-    /// The number of the next output to a caller among those that it is sent, counted from 1. It is
-    /// refused where that is no number of 32 bits.
+    /// The number of the next output to a connection among those that it is sent, counted from 1.
+    /// It is refused where that is not a number of 32 bits.
     pub fn next(&self, caller: u32) -> Result<u32, NoMemory>
         ensures next { (past : List Item) → Counts self.now past → IfOk result (λ n. n ≡ sent past caller + 1) }
+        ensures number { IfOk result (λ n. n ≡ sent_in self.now caller + 1) }
     {
-        let count = self.count(caller);
+        let count = count(&self.counts, caller);
         if count < 4_294_967_295 {
             Ok(count as u32 + 1)
         } else {
             Err(NoMemory)
         }
+    }
+
+    /// Counts one more output to a caller, and answers its number among those that it is sent, counted
+    /// from 1. It is refused where that is no number of 32 bits.
+    pub fn count_one(&mut self, caller: u32) -> Result<u32, NoMemory>
+        ensures number { IfOk result (λ n. n ≡ sent_in self.old caller + 1) }
+        ensures counted { OnOk result ((c : ℕ) → sent_in self.new c ≡ (if caller == c then sent_in self.old c + 1 else sent_in self.old c)) }
+    {
+        let number = self.next(caller)?;
+        prepare(&mut self.counts, caller, 1)?;
+        add_one(&mut self.counts, caller);
+        Ok(number)
     }
 
     /// Takes what counting these outputs needs. It changes no count.

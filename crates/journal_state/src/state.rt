@@ -89,8 +89,8 @@ impl State {
         self.carry(&in_force.world, entry, loaded, opened, granted)
     }
 
-    /// The same, where the item opens this challenge and makes this grant, in the world in force before
-    /// it.
+    /// The same, where the item opens this challenge and makes this temporary authorization, in the
+    /// world in force before it.
     fn carry(
         &mut self,
         world: &World,

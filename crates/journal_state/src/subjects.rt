@@ -5,17 +5,17 @@ ghost use Rattle.authority_model.specs.declared.journal.Item.{Item};
 ghost use Rattle.authority_model.specs.Items.{world_of};
 ghost use Rattle.authority_model.specs.Facts.{facts_seen};
 ghost use Rattle.authority_model.specs.Keys.{key_seen};
-ghost use Rattle.authority_model.specs.Subjects.{facts as facts_after, key_of};
+ghost use Rattle.authority_model.specs.Subjects.{facts as facts_after, key_of, process_id};
 ghost use Rattle.journal_state.specs.Connected.{Tells, announced_by};
 
 use crate::connections::Connections;
 use crate::names::caller_of;
-use authority_model::{Facts, KeyRef, World};
+use authority_model::{Facts, KeyRef, ProcessId, World};
 use pk_types::Subject;
 use subject_table::facts;
 
 /// The process that the connection of a bus name announced.
-fn announced(connections: &Connections, subject: &Subject) -> Option<(u32, u64)>
+fn announced(connections: &Connections, subject: &Subject) -> Option<ProcessId>
     ensures process { (past : List Item) → Tells connections.now past → result ≡ announced_by past subject.now }
 {
     match subject {
@@ -25,6 +25,13 @@ fn announced(connections: &Connections, subject: &Subject) -> Option<(u32, u64)>
         },
         _ => None,
     }
+}
+
+/// The pid and the start of a process.
+fn parts(process: Option<ProcessId>) -> Option<(u32, u64)>
+    ensures parts { option_map process_id result ≡ process }
+{
+    process.map(|process| (process.pid, process.start))
 }
 
 /// What is known of a subject, by the connections and the world after a history.
@@ -37,7 +44,7 @@ pub fn facts_of<'a>(
 ) -> Option<Facts<'a>>
     ensures facts { (past : List Item) → Tells connections.now past → world.now ≡ world_of past → option_map facts_seen result ≡ facts_after past subject.now }
 {
-    facts(world, announced(connections, subject), subject)
+    facts(world, parts(announced(connections, subject)), subject)
 }
 
 /// The key of a subject, by the connections and the world after a history.

@@ -1,11 +1,11 @@
-// One history: a check is asked, answered and granted, and the grant is revoked. What is wanted is said
-// by polkit(8).
+// One history: a check is asked and answered, which makes a temporary authorization, and that is
+// revoked. The expected values are those of polkit(8).
 ghost use Rattle.std.specs.Prelude.{◌≤◌, ◌^◌, IfOk};
 ghost use Rattle.authority_model.specs.Small.{IsShort};
 
 use crate::State;
 use authority_model::{
-    Action, Call, Cookie, Entry, Event, Loaded, Message, Output, OutputList, Process,
+    Action, Call, Cookie, Entry, Event, Loaded, Message, Output, OutputList, Process, ProcessId,
 };
 use pk_types::{ActionId, Identity, Implicit, List, Subject, Text};
 use std::alloc::Global;
@@ -36,7 +36,7 @@ fn load(alloc: Global) -> Result<Loaded, Fail>
     Ok(loaded)
 }
 
-/// What the agent of caller 1 is asked.
+/// What the agent of connection 1 is asked.
 fn begin(alloc: Global) -> Result<OutputList, Fail> {
     let mut identities = List::new(alloc);
     identities.try_push(Identity::User(1000))?;
@@ -67,7 +67,7 @@ fn call(call: Call) -> Event {
     }
 }
 
-/// Caller 1 registers an agent for itself.
+/// Connection 1 registers an agent for itself.
 fn register(alloc: Global) -> Result<Event, Fail> {
     Ok(call(Call::Register {
         subject: Subject::BusName {
@@ -141,11 +141,12 @@ fn step(
     Ok(())
 }
 
-/// Whether the process of caller 1 is known, and how many live callers, registrations, pending
-/// challenges, challenges opened, grants, grants made and outputs to caller 1 there are.
+/// Whether the process of connection 1 is known, and how many live connections, registrations,
+/// pending challenges, challenges opened, temporary authorizations, those ever made, and outputs to
+/// connection 1 there are.
 fn seen(alloc: Global, state: &State) -> Result<(bool, [u64; 7]), Fail> {
     Ok((
-        state.connections.announced(1) == Some((50, 7)),
+        state.connections.announced(1) == Some(ProcessId { pid: 50, start: 7 }),
         [
             state.connections.live_connections(alloc)?.len() as u64,
             state.registrations.as_slice().len() as u64,
@@ -183,7 +184,8 @@ fn answered_check_makes_a_grant(rt: HostRuntime) -> Result<(), Fail> {
     Ok(())
 }
 
-/// How many grants there are after an eighth event at this moment, where one was made at second 10.
+/// How many temporary authorizations there are after an eighth event at this moment, where one was
+/// made at second 10.
 fn grants_at(alloc: Global, moment: u64) -> Result<usize, Fail>
     requires { moment ≤ 2 ^ 62 }
 {

@@ -16,7 +16,7 @@ rule_seen r = (r.place, r.entry.now)
 
 -- the last of these rules that matches at a place, with its own place among them
 abbrev pub last_of : List RuleEntry → Bytes → Category → Bytes → Option (ℕ × RuleEntry)
-last_of entries action category label = find_last (λ e. matches_at label action category e.1) (enumerate_from 0 entries)
+last_of entries action category label = find_last (λ (place, entry). matches_at label action category entry) (enumerate_from 0 entries)
 
 -- the label of a group, where it has a row
 abbrev pub group_places : World → ℕ → List Bytes

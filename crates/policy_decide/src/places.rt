@@ -65,7 +65,7 @@ fn greatest_of_user<'a>(
     }
 }
 
-/// The rule that decides for a user. One without a row stands at no place.
+/// The rule that decides for a user. A user without a row has no place.
 pub fn deciding<'a>(
     policy: &'a Policy,
     world: &World,

@@ -1,4 +1,4 @@
-// Each public call once, with ample memory. What is wanted is said by pklocalauthority(8).
+// Each public call once, with ample memory. The expected values are those of pklocalauthority(8).
 ghost use Rattle.std.specs.Prelude.{IfOk};
 ghost use Rattle.authority_model.specs.Small.{IsShort};
 

@@ -1,6 +1,6 @@
 //! What is known of a subject, or of a key, by the rows of a world.
 //!
-//! Of several rows with one key the first counts. Nothing here takes memory.
+//! Where several rows have one key, the first counts. Nothing here takes memory.
 #![tactic(auto)]
 
 mod keys;

@@ -2,7 +2,7 @@
 ghost use Rattle.std.specs.Prelude.{◌≡◌};
 ghost use Rattle.std.specs.Option.{option_copied, option_map};
 ghost use Rattle.authority_model.specs.Facts.{category_of, facts_of_process, facts_of_session, facts_seen};
-ghost use Rattle.authority_model.specs.Subjects.{facts_in, facts_of_row};
+ghost use Rattle.authority_model.specs.Subjects.{facts_in, facts_of_row, process_id};
 
 use authority_model::{Facts, KeyRef, Process, Session, World};
 use pk_types::{Category, Subject};
@@ -72,14 +72,14 @@ fn pid_facts(world: &World, pid: u32, start: u64) -> Option<Facts<'_>>
 
 /// What is known of a subject by its row in the world.
 ///
-/// `announced` is the process that a bus name's live connection announced, and is used for a bus
-/// name alone. The answer is `None` exactly where nothing is known.
+/// `announced` is the process, by pid and start, that a bus name's live connection announced, and is
+/// used for a bus name alone. The answer is `None` exactly where nothing is known.
 pub fn facts<'a>(
     world: &'a World,
     announced: Option<(u32, u64)>,
     subject: &Subject,
 ) -> Option<Facts<'a>>
-    ensures facts { option_map facts_seen result ≡ facts_in world.now announced subject.now }
+    ensures facts { option_map facts_seen result ≡ facts_in world.now (option_map process_id announced) subject.now }
 {
     match subject {
         Subject::Process { pid, start } => pid_facts(world, *pid, *start),

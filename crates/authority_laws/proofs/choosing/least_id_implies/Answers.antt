@@ -5,5 +5,5 @@ pub returns : goal.returns
 returns c = record {
   by_bytes = λ a b. (before_less a b, less_before a b);
   found = λ past grants f t a b. (implying_back past grants f t a b, implying_forth past grants f t a b);
-  decides = λ past grants f t a b v. (implied_back past grants f t a b v, implied_forth past grants f t a b v);
+  decides = λ past grants f t a b value source. (implied_back past grants f t a b value source, implied_forth past grants f t a b value source);
 }

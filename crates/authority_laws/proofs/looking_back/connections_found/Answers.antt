@@ -5,5 +5,5 @@ pub returns : goal.returns
 returns c = record {
   user = λ past c uid. (uid_back past c uid, uid_forth past c uid);
   life = λ past c. (live_back past c, live_forth past c);
-  process = λ past c pid start. (announced_back past c pid start, announced_forth past c pid start);
+  process = λ past c p. (announced_back past c p, announced_forth past c p);
 }
