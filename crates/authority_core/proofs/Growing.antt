@@ -1,26 +1,32 @@
 -- A sound authority after one more entry.
 use Rattle.std.proofs.Common.{◌≡◌, ℕ, ◌+◌, ◌≤◌, ◌^◌, max, Bool, true, false, List, [], ◌∷◌, ◌++◌, refl, ap, sym, ◌∙◌, subst, Some, None, length, arith}
-use Rattle.std.specs.Prelude.{slice_get, take}
+use Rattle.std.specs.Prelude.{◌<◌, ◌||◌, nat_le, slice_get, take}
 use Rattle.std.proofs.lemmas.List.{length-append, get_or_push}
+use Rattle.std.proofs.lemmas.Bool.Decides.{nat_tests}
+use Rattle.std.proofs.lemmas.List.Sums.{sum_by-cons}
 use Rattle.std.proofs.lemmas.Option.{slice_get-get_or}
 use Rattle.authority_model.specs.declared.event.Event.{Event}
 use Rattle.authority_model.specs.declared.event.Event.TheVariants.{Connect, Call as Called, Returned, AgentError, Passed, Depart, Load, LoadFailed, Stop, Collect}
 use Rattle.authority_model.specs.declared.journal.Entry.{Entry}
 use Rattle.authority_model.specs.declared.journal.History.{History}
 use Rattle.authority_model.specs.declared.journal.Item.{Item}
+use Rattle.authority_model.specs.declared.journal.Limits.{Limits}
 use Rattle.authority_model.specs.declared.load.Loaded.{Loaded}
 use Rattle.authority_model.specs.declared.message.Output.{Output}
 use Rattle.authority_model.specs.Items.{items_of, is_load, loaded_of}
 use Rattle.authority_model.specs.Answers.{answers, loads}
 use Rattle.authority_model.specs.Legal.{Legal, Follows, IsNumbered, IsCollected, last_moment}
-use Rattle.authority_model.specs.Given.{IsStepped, event_given, load_given, item_of, next, Grows}
+use Rattle.authority_model.specs.Entering.{cost_of_item, counted_bytes, is_full}
+use Rattle.authority_model.specs.Given.{Given, IsStepped, event_given, load_given, item_of, next, Grows}
 use Rattle.authority_model.specs.Small.{IsShort}
-use Rattle.authority_model.proofs.Pairing.{items_other, items_load, load_count, count_one}
+use Rattle.authority_model.proofs.Pairing.{length_items, items_other, items_load, load_count, count_one}
 use Rattle.journal_state.specs.declared.state.State.{State}
 use Rattle.journal_state.specs.States.{IsStateOf}
+use Rattle.authority_core.specs.Journal.{Journal}
+use Rattle.authority_core.specs.Refusals.{IsFullAt}
 use Rattle.authority_core.specs.Sound.{IsSound}
 
--- what a step takes is no load
+-- what a step takes is not a load
 other : (event : Event) → IsStepped event → is_load event ≡ false
 other (Load load) s = absurd s
 other (Connect uid) s = refl
@@ -86,19 +92,19 @@ front_of (x ∷ ls) l = ap (λ r. x ∷ r) (front_of ls l)
 pub end_of : (ls : List Loaded) (l : Loaded) → slice_get (ls ++ l ∷ []) (length ls) ≡ Some l
 end_of ls l = slice_get-get_or (ls ++ l ∷ []) (length ls) l (omega (arith, length_end ls l)) ∙ ap Some (get_or_push ls l l (length ls) refl)
 
--- an event's entry that was pushed, with a state of the history behind it
+-- an event's entry that was pushed, with a state of the history that ends with it
 module _ (h : History) (moment : ℕ) (empty : Loaded) (state : State) (sound : IsSound h moment empty state) (caller m t salt : ℕ) (event : Event) (outputs : List Output) (es : List Entry) (state' : State)
     (stepped : IsStepped event) (bounded : m ≤ 2 ^ 62) (t_is : t ≡ max moment m)
     (answered : outputs ≡ answers (items_of h) caller t salt event None)
     (pushed : es ≡ h.entries ++ record { caller = caller; moment = t; salt = salt; event = event; outputs = outputs } ∷ [])
     (stands : IsStateOf (record { entry = record { caller = caller; moment = t; salt = salt; event = event; outputs = outputs }; loaded = None } ∷ items_of h) state') where
-  entry_is : record { caller = caller; moment = t; salt = salt; event = event; outputs = outputs } ≡ (next (items_of h) (event_given caller m salt event)).entry
-  entry_is = ap (λ (o : List Output). record { caller = caller; moment = t; salt = salt; event = event; outputs = o }) answered
+  pub event_entry_is : record { caller = caller; moment = t; salt = salt; event = event; outputs = outputs } ≡ (next (items_of h) (event_given caller m salt event)).entry
+  event_entry_is = ap (λ (o : List Output). record { caller = caller; moment = t; salt = salt; event = event; outputs = o }) answered
       ∙ ap (λ t. (item_of (items_of h) caller t salt event None).entry) (t_is ∙ ap (λ n. max n m) sound.moment_is)
 
   -- the entry that was pushed is the one of the event
   pub event_entry : es ≡ h.entries ++ (next (items_of h) (event_given caller m salt event)).entry ∷ []
-  event_entry = pushed ∙ ap (λ (e : Entry). h.entries ++ e ∷ []) entry_is
+  event_entry = pushed ∙ ap (λ (e : Entry). h.entries ++ e ∷ []) event_entry_is
 
   pub event_grows : Grows h (record { entries = es; loads = h.loads }) (event_given caller m salt event)
   event_grows = rw event_entry (items_other h (next (items_of h) (event_given caller m salt event)).entry (other event stepped))
@@ -112,14 +118,14 @@ module _ (h : History) (moment : ℕ) (empty : Loaded) (state : State) (sound : 
         legal = record { items = subst Legal (sym event_grows) (follows, sound.legal.items); loads = ap loads event_grows ∙ omega (arith, sound.legal.loads) };
         moment_is = t_is ∙ ap (λ n. max n m) sound.moment_is ∙ ap last_moment (sym event_grows);
         empty_is = sound.empty_is;
-        state_is = subst (λ past. IsStateOf past state') (ap (λ (e : Entry). record { entry = e; loaded = None } ∷ past) entry_is ∙ sym event_grows) stands;
+        state_is = subst (λ past. IsStateOf past state') (ap (λ (e : Entry). record { entry = e; loaded = None } ∷ past) event_entry_is ∙ sym event_grows) stands;
         each_loaded = ap load_count event_entry ∙ count_end h.entries item.entry false (other event stepped) ∙ sound.each_loaded;
         few = sound.few;
         actions = subst (λ past. IsShort (loaded_of past).policy.actions) (sym event_grows) sound.actions;
         rules = subst (λ past. IsShort (loaded_of past).policy.entries) (sym event_grows) sound.rules;
       }
 
--- a load's entry that was pushed with the load, with a state of the history behind it
+-- a load's entry that was pushed with the load, with a state of the history that ends with it
 module _ (h : History) (moment : ℕ) (empty : Loaded) (state : State) (sound : IsSound h moment empty state) (caller m t number : ℕ) (l : Loaded) (outputs : List Output) (h' : History) (state' : State)
     (bounded : m ≤ 2 ^ 62) (t_is : t ≡ max moment m) (number_is : number ≡ length h.loads + 1) (number_fits : number ≤ 4294967295)
     (actions : IsShort l.policy.actions) (rules : IsShort l.policy.entries)
@@ -127,7 +133,7 @@ module _ (h : History) (moment : ℕ) (empty : Loaded) (state : State) (sound : 
     (pushed : h'.entries ≡ h.entries ++ record { caller = caller; moment = t; salt = 0; event = Load number; outputs = outputs } ∷ [])
     (loaded : h'.loads ≡ h.loads ++ l ∷ [])
     (stands : IsStateOf (record { entry = record { caller = caller; moment = t; salt = 0; event = Load number; outputs = outputs }; loaded = Some l } ∷ items_of h) state') where
-  load_entry_is : record { caller = caller; moment = t; salt = 0; event = Load number; outputs = outputs } ≡ (next (items_of h) (load_given caller m l)).entry
+  pub load_entry_is : record { caller = caller; moment = t; salt = 0; event = Load number; outputs = outputs } ≡ (next (items_of h) (load_given caller m l)).entry
   load_entry_is = ap (λ (o : List Output). record { caller = caller; moment = t; salt = 0; event = Load number; outputs = o }) answered
       ∙ ap (λ t. (item_of (items_of h) caller t 0 (Load number) (Some l)).entry) (t_is ∙ ap (λ n. max n m) sound.moment_is)
       ∙ ap (λ n. (item_of (items_of h) caller (max (last_moment (items_of h)) m) 0 (Load n) (Some l)).entry) (number_is ∙ ap (λ n. n + 1) (sym sound.legal.loads))
@@ -158,3 +164,35 @@ module _ (h : History) (moment : ℕ) (empty : Loaded) (state : State) (sound : 
         actions = subst (λ past. IsShort (loaded_of past).policy.actions) (sym load_grows) actions;
         rules = subst (λ past. IsShort (loaded_of past).policy.entries) (sym load_grows) rules;
       }
+
+-- the counted bytes after one more item
+pub counted_more : (past items : List Item) (g : Given) (cost bytes : ℕ) → items ≡ next past g ∷ past → cost ≡ cost_of_item (next past g) → bytes ≡ counted_bytes past → bytes + cost ≡ counted_bytes items
+counted_more past items g cost bytes grows is counted =
+    let more = ap counted_bytes grows in
+    let first = sum_by-cons cost_of_item (next past g) past in
+    omega (arith, more, first, is, counted)
+
+-- a journal is full by its entries
+pub full_then : (limits : Limits) (h : History) (journal : Journal) (n : ℕ) → record { history = h; limits = limits } ≡ journal → n ≡ length h.entries → limits.entries ≤ n
+    → nat_le limits.entries n ≡ is_full journal.limits (items_of journal.history)
+full_then limits h journal n seen entries many =
+    let test : nat_le limits.entries n ≡ true = grind (arith, nat_tests) in
+    subst (λ (j : Journal). nat_le limits.entries n ≡ is_full j.limits (items_of j.history)) seen
+    (test ∙ sym (ap (λ b. b || nat_le limits.bytes (counted_bytes (items_of h))) (ap (nat_le limits.entries) (length_items h ∙ sym entries) ∙ test)))
+
+-- a journal is full by its bytes, or not at all
+pub full_else : (limits : Limits) (h : History) (bytes : ℕ) (journal : Journal) (n : ℕ) → record { history = h; limits = limits } ≡ journal → n ≡ length h.entries → bytes ≡ counted_bytes (items_of h)
+    → n < limits.entries → nat_le limits.bytes bytes ≡ is_full journal.limits (items_of journal.history)
+full_else limits h bytes journal n seen entries counted few =
+    let test : nat_le limits.entries n ≡ false = grind (arith, nat_tests) in
+    subst (λ (j : Journal). nat_le limits.bytes bytes ≡ is_full j.limits (items_of j.history)) seen
+    (ap (nat_le limits.bytes) counted ∙ sym (ap (λ b. b || nat_le limits.bytes (counted_bytes (items_of h))) (ap (nat_le limits.entries) (length_items h ∙ sym entries) ∙ test)))
+
+-- a journal that is full has these numbers
+pub full_at : (limits : Limits) (h : History) (bytes : ℕ) (journal : Journal) (n : ℕ) → record { history = h; limits = limits } ≡ journal → n ≡ length h.entries → bytes ≡ counted_bytes (items_of h)
+    → is_full journal.limits (items_of journal.history) ≡ true → IsFullAt journal n bytes
+full_at limits h bytes journal n seen entries counted full = record {
+  full = full;
+  entries_are = entries ∙ sym (length_items h) ∙ ap (λ (j : Journal). length (items_of j.history)) seen;
+  bytes_are = counted ∙ ap (λ (j : Journal). counted_bytes (items_of j.history)) seen;
+}

@@ -1,2 +1,4 @@
 pub mod Sound
 pub mod Journal
+pub mod Refusals
+pub mod Kept

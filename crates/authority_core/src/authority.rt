@@ -1,5 +1,5 @@
 // The authority: its journal, and the calls that add to it.
-ghost use Rattle.std.specs.Prelude.{◌≡◌, ◌≤◌, ◌^◌, ◌++◌, ◌∷◌, [], max, length, slice_get, IfOk, IfErr, OnOk, OnErr};
+ghost use Rattle.std.specs.Prelude.{◌≡◌, ◌≤◌, ◌^◌, ◌++◌, ◌∷◌, [], false, max, length, slice_get, IfOk, IfErr, OnOk, OnErr};
 ghost use Rattle.std.specs.Option.{option_copied, option_map};
 ghost use Rattle.authority_model.specs.Items.{items_of, policy_of};
 ghost use Rattle.authority_model.specs.Legal.{IsLegal, last_moment};
@@ -9,10 +9,10 @@ ghost use Rattle.authority_model.specs.Grants.{kept};
 ghost use Rattle.authority_model.specs.Given.{IsStepped, event_given, load_given, next, Grows};
 
 use crate::entering::{enter, enter_load, load_in_force, next_load};
-use crate::limits::Limits;
-use authority_model::{Decision, Entry, Event, History, Loaded};
+use authority_model::{Decision, Entry, Event, History, Limits, Loaded};
 use check_decision::decision;
 use journal_answers::{load_outputs, outputs};
+use journal_costs::{cost_of_entry, cost_of_load};
 use journal_state::{State, facts_of};
 use pk_types::{List, NoMemory, Subject, Text};
 use std::alloc::Global;
@@ -21,7 +21,7 @@ use std::marker::Model;
 /// Why an event was refused. It comes back, and nothing has changed.
 #[derive(Drop)]
 pub enum StepRefused {
-    /// The journal has reached its limit of entries or of bytes. It does not come yet.
+    /// The journal has reached its limit of entries or of bytes. It has this many.
     JournalFull {
         entries: u64,
         bytes: u64,
@@ -35,7 +35,7 @@ pub enum StepRefused {
 /// Why a load was refused. It comes back, and nothing has changed.
 #[derive(Drop)]
 pub enum LoadStepRefused {
-    /// The journal has reached its limit of entries or of bytes. It does not come yet.
+    /// The journal has reached its limit of entries or of bytes. It has this many.
     JournalFull {
         entries: u64,
         bytes: u64,
@@ -52,27 +52,30 @@ pub struct Authority {
     alloc: Global,
     limits: Limits,
     history: History,
+    /// The counted bytes of the journal.
+    bytes: u64,
     /// The greatest moment handed in so far.
     moment: u64,
     /// Load 0, which is in force until the first load.
     empty: Loaded,
-    /// What the journal comes to, kept from entry to entry.
+    /// The state of the journal's history, kept from entry to entry.
     state: State,
 }
 
 impl Model for Authority {
     ghost use Rattle.authority_core.specs.Journal.{Journal};
-    ghost use Rattle.authority_core.specs.Sound.{IsSound};
+    ghost use Rattle.authority_core.specs.Kept.{IsKept};
 
     ghost Value = { Journal };
 
     ghost view = { λ a. record { history = a.history; limits = a.limits } };
 
-    ghost invariant = { λ a. IsSound a.history a.moment a.empty a.state };
+    ghost invariant = { λ a. IsKept a.history a.limits a.bytes a.moment a.empty a.state };
 }
 
 impl Authority {
-    ghost use Rattle.authority_core.specs.Journal.{AreAllowed};
+    ghost use Rattle.authority_model.specs.Entering.{AreAllowed, is_full};
+    ghost use Rattle.authority_core.specs.Refusals.{IsStepRefused, IsLoadRefused};
 
     /// An authority whose journal is empty.
     pub fn start(alloc: Global, limits: Limits) -> Result<Authority, NoMemory>
@@ -86,6 +89,7 @@ impl Authority {
                 entries: List::new(alloc),
                 loads: List::new(alloc),
             },
+            bytes: 0,
             moment: 0,
             empty: Loaded::empty(alloc),
             state: State::start(alloc),
@@ -93,7 +97,7 @@ impl Authority {
     }
 
     /// The journal. It is legal: each event was answered as the definitions say. And each yes in it
-    /// is licensed at its place, by what polkit allows a yes for.
+    /// is licensed at its place, by something for which polkit allows a yes.
     pub fn history(&self) -> &History
         ensures same { result.now ≡ self.now.history }
         ensures legal { IsLegal self.now.history }
@@ -109,10 +113,22 @@ impl Authority {
         self.history.entries.get(place as usize)
     }
 
+    /// Whether the journal takes no further entry: it has as many entries, or as many counted bytes,
+    /// as its limits say.
+    fn is_full(&self) -> bool
+        ensures full { result ≡ is_full self.now.limits (items_of self.now.history) }
+    {
+        self.limits.entries <= self.history.entries.len() as u64 || self.limits.bytes <= self.bytes
+    }
+
     /// Adds the entry of an event, and answers its place, counted from 0.
     ///
     /// The entry has the greatest moment handed in so far. Its outputs are the answers to the event
     /// after the journal so far.
+    ///
+    /// # Errors
+    /// 1 `JournalFull` exactly where the journal has its limit of entries, or its counted bytes are at
+    /// or above the limit of bytes; 2 `NoMemory`. Both leave the authority as it was.
     pub fn step(
         &mut self,
         caller: u32,
@@ -129,8 +145,17 @@ impl Authority {
 
         ensures limits { self.new.limits ≡ self.old.limits }
         ensures err { OnErr result (self.new ≡ self.old) }
-        ensures back { IfErr result (λ refused. refused ≡ StepRefused.NoMemory event) }
+        ensures legal { IsLegal self.new.history }
+        ensures within { OnOk result (is_full self.old.limits (items_of self.old.history) ≡ false) }
+        ensures refused { IfErr result (IsStepRefused self.old event) }
     {
+        if self.is_full() {
+            return Err(StepRefused::JournalFull {
+                entries: self.history.entries.len() as u64,
+                bytes: self.bytes,
+                event,
+            });
+        }
         let loads = self.history.loads.len() as u32;
         let in_force = load_in_force(self.history.loads.as_slice(), &self.empty);
         let moment = self.moment.max(moment);
@@ -154,6 +179,7 @@ impl Authority {
             event,
             outputs,
         };
+        let cost = cost_of_entry(&entry);
         let place = self.history.entries.len();
         match enter(
             &mut self.history.entries,
@@ -163,6 +189,7 @@ impl Authority {
             None,
         ) {
             Ok(()) => {
+                self.bytes += cost;
                 self.moment = moment;
                 Ok(place as u64)
             }
@@ -172,7 +199,10 @@ impl Authority {
 
     /// Adds the entry of the next load, and answers its place, counted from 0.
     ///
-    /// The entry has the greatest moment handed in so far and the random word 0.
+    /// The entry has the greatest moment handed in so far and the salt 0.
+    ///
+    /// # Errors
+    /// As for `step`.
     pub fn load(&mut self, caller: u32, moment: u64, loaded: Loaded) -> Result<u64, LoadStepRefused>
         requires moment { moment ≤ 2 ^ 62 }
         ensures place { IfOk result (λ place. place ≡ length self.old.history.entries) }
@@ -182,8 +212,17 @@ impl Authority {
 
         ensures limits { self.new.limits ≡ self.old.limits }
         ensures err { OnErr result (self.new ≡ self.old) }
-        ensures back { IfErr result (λ refused. refused ≡ LoadStepRefused.NoMemory loaded) }
+        ensures legal { IsLegal self.new.history }
+        ensures within { OnOk result (is_full self.old.limits (items_of self.old.history) ≡ false) }
+        ensures refused { IfErr result (IsLoadRefused self.old loaded) }
     {
+        if self.is_full() {
+            return Err(LoadStepRefused::JournalFull {
+                entries: self.history.entries.len() as u64,
+                bytes: self.bytes,
+                loaded,
+            });
+        }
         let Some(number) = next_load(&self.history.loads, &loaded) else {
             return Err(LoadStepRefused::NoMemory { loaded });
         };
@@ -199,6 +238,7 @@ impl Authority {
             event: Event::Load { load: number },
             outputs,
         };
+        let cost = cost_of_entry(&entry) + cost_of_load(&loaded);
         let place = self.history.entries.len();
         match enter_load(
             &mut self.history,
@@ -208,6 +248,7 @@ impl Authority {
             loaded,
         ) {
             Ok(()) => {
+                self.bytes += cost;
                 self.moment = greatest;
                 Ok(place as u64)
             }
@@ -215,9 +256,9 @@ impl Authority {
         }
     }
 
-    /// What a check of a subject would be told without a challenge, at this moment or the journal's
-    /// greatest, whichever is greater. `None` exactly where the action is unknown or nothing is known
-    /// of the subject.
+    /// What a check of a subject would be told without a challenge, at the later of this moment and
+    /// the journal's greatest. `None` exactly where the action is unknown or nothing is known of
+    /// the subject.
     pub fn decide(&self, moment: u64, subject: &Subject, id: &Text) -> Option<Decision>
         ensures decision { result ≡ option_map (told_decision (policy_of (items_of self.now.history))) (decision_on (items_of self.now.history) (kept (items_of self.now.history)) (max (last_moment (items_of self.now.history)) moment) subject.now id.now) }
     {

@@ -13,7 +13,7 @@ use authority_model::{Entry, EntryList, History, Loaded, LoadedList};
 use journal_state::State;
 use pk_types::NoMemory;
 
-/// The load in force behind these loads: the last one, or load 0, which is empty.
+/// The load in force after these loads: the last one, or load 0, which is empty.
 pub fn load_in_force<'a>(loads: &'a [Loaded], empty: &'a Loaded) -> &'a Loaded
     requires empty { empty.now ≡ empty_loaded }
     ensures in_force { (h : TheHistory) → h.loads ≡ loads.now → loads_after (items_of h) ≡ length h.loads → result.now ≡ loaded_of (items_of h) }
@@ -96,8 +96,8 @@ pub fn enter_load(
     }
 }
 
-/// The number of the next load, where it and the places in its policy are counted in 32 bits, as they
-/// are in any memory.
+/// The number of the next load, where it and the places in its policy fit in 32 bits, as they do in
+/// any memory.
 pub fn next_load(loads: &LoadedList, loaded: &Loaded) -> Option<u32>
     ensures number { IfSome result (λ number. number ≡ length loads.now + 1) }
     ensures fits { IfSome result (λ number. number ≤ 4294967295) }

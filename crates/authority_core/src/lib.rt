@@ -2,15 +2,16 @@
 //! definitions give.
 //!
 //! Beside the journal the authority keeps its state: who is connected, which agents are registered,
-//! which challenges are pending and which grants stand. It is carried on with each entry, so that no
-//! answer searches the journal.
+//! which challenges are pending and which temporary authorizations have not expired. It is carried
+//! on with each entry, so that no answer searches the journal.
 #![tactic(auto)]
 
 mod authority;
 mod entering;
-mod limits;
+#[cfg(test)]
+mod full_tests;
 #[cfg(test)]
 mod tests;
 
 pub use authority::{Authority, LoadStepRefused, StepRefused};
-pub use limits::Limits;
+pub use authority_model::Limits;

@@ -21,15 +21,15 @@ returns-in-Some c = record {
       let past : List Item = items_of c.self.inside.history in
       let latest : ℕ = c.max-latest.result in
       let f : Facts = facts_seen c.in_ok-facts.facts in
-      let later : last_moment past ≤ latest = omega (arith, c.self.invariant.moment_is, c.max-latest.ensures) in
-      let in_force : c.load_in_force-in_force.result.now ≡ loaded_of past = c.load_in_force-in_force.ensures.in_force c.self.inside.history (sym c.as_slice.ensures.items) c.self.invariant.legal.loads in
+      let later : last_moment past ≤ latest = omega (arith, c.self.invariant.sound.moment_is, c.max-latest.ensures) in
+      let in_force : c.load_in_force-in_force.result.now ≡ loaded_of past = c.load_in_force-in_force.ensures.in_force c.self.inside.history (sym c.as_slice.ensures.items) c.self.invariant.sound.legal.loads in
       let tell : Option Decision → Option Told = option_map (told_decision (policy_of past)) in
       let told : Some c.told.result ≡ tell (Some (decision_seen c.in-Some.decision)) = ap (λ (d : Told). Some d) (c.told.ensures.told ∙ ap (λ (l : Loaded). told_decision l.policy (decision_seen c.in-Some.decision)) in_force) in
       subst (λ (j : Journal). Some c.told.result ≡ option_map (told_decision (policy_of (items_of j.history))) (decision (items_of j.history) (kept (items_of j.history)) (max (last_moment (items_of j.history)) c.args.moment) c.args.subject.now c.args.id.now)) c.self.view_is
       (told
       ∙ ap tell (c.in-Some.ensures.decision past in_force
-      ∙ ap (λ (rows : List GrantRow). decision_for past rows f latest c.args.id.now) (c.as_slice-grants.ensures.rows ∙ c.self.invariant.state_is.grants)
+      ∙ ap (λ (rows : List GrantRow). decision_for past rows f latest c.args.id.now) (c.as_slice-grants.ensures.rows ∙ c.self.invariant.sound.state_is.grants)
       ∙ current_decision_for past latest later f c.args.id.now
-      ∙ ap (λ (o : Option Facts). option_and_then (λ g. decision_for past (kept past) g latest c.args.id.now) o) (c.in_ok-facts.ensures.facts past c.self.invariant.state_is.connections (ap (λ (l : Loaded). l.world) in_force))
-      ∙ ap (λ t. decision past (kept past) t c.args.subject.now c.args.id.now) (c.max-latest.ensures ∙ ap (λ n. max n c.args.moment) c.self.invariant.moment_is)));
+      ∙ ap (λ (o : Option Facts). option_and_then (λ g. decision_for past (kept past) g latest c.args.id.now) o) (c.in_ok-facts.ensures.facts past c.self.invariant.sound.state_is.connections (ap (λ (l : Loaded). l.world) in_force))
+      ∙ ap (λ t. decision past (kept past) t c.args.subject.now c.args.id.now) (c.max-latest.ensures ∙ ap (λ n. max n c.args.moment) c.self.invariant.sound.moment_is)));
 }

@@ -1,0 +1,485 @@
+// What entries and loads cost, worked out by hand.
+//
+// Each row has texts of 1, 2, 4, 8, 16 and 32 bytes, so what its cost is above a multiple of 64 tells
+// which texts were counted, and the multiple tells how many rows were.
+use crate::cost::{Cost, MAX_COST};
+use crate::{cost_of_entry, cost_of_load};
+use authority_model::{
+    Action, Answer, Call, Cookie, Entry, ErrorCause, Event, FileFault, GrantRow, GrantRowList,
+    Group, Key, Loaded, Localized, LocalizedList, Message, Output, OutputList, Process, Reason,
+    RuleEntry, Session, User, Verdict,
+};
+use pk_types::{
+    ActionId, Identity, IdentityList, Implicit, List, Pair, PairList, Subject, Text, TextList,
+};
+use std::alloc::Global;
+use std::test::Fail;
+
+/// A text of so many bytes.
+fn text(alloc: Global, len: usize) -> Result<Text, Fail> {
+    let letters = b"abcdefghijklmnopqrstuvwxyzabcdef".as_slice();
+    let bytes = letters.get(..len).ok_or("more than 32 bytes")?;
+    Ok(Text::try_from_bytes(alloc, bytes)?)
+}
+
+fn one<T: Drop>(alloc: Global, item: T) -> Result<List<T>, Fail> {
+    let mut list = List::new(alloc);
+    list.try_push(item)?;
+    Ok(list)
+}
+
+fn pairs(alloc: Global, key: usize, value: usize) -> Result<PairList, Fail> {
+    let key = text(alloc, key)?;
+    let value = text(alloc, value)?;
+    one(alloc, Pair { key, value })
+}
+
+fn session(alloc: Global, len: usize) -> Result<Subject, Fail> {
+    Ok(Subject::Session {
+        id: text(alloc, len)?,
+    })
+}
+
+fn bus_name(alloc: Global, len: usize) -> Result<Subject, Fail> {
+    Ok(Subject::BusName {
+        name: text(alloc, len)?,
+    })
+}
+
+/// What an entry of this event costs without outputs.
+fn event_cost(alloc: Global, event: Event) -> u64 {
+    cost_of_entry(&Entry {
+        caller: 1,
+        moment: 5,
+        salt: 7,
+        event,
+        outputs: List::new(alloc),
+    })
+}
+
+fn call_cost(alloc: Global, call: Call) -> u64 {
+    event_cost(
+        alloc,
+        Event::Call {
+            serial: 1,
+            quiet: false,
+            call,
+        },
+    )
+}
+
+/// What an entry whose event has no texts costs with this one message.
+fn message_cost(alloc: Global, message: Message) -> Result<u64, Fail> {
+    Ok(cost_of_entry(&Entry {
+        caller: 1,
+        moment: 5,
+        salt: 7,
+        event: Event::Passed,
+        outputs: one(alloc, Output { to: 1, message })?,
+    }))
+}
+
+fn answer_cost(alloc: Global, answer: Answer) -> Result<u64, Fail> {
+    message_cost(alloc, Message::Reply { serial: 1, answer })
+}
+
+#[test]
+fn events_without_texts_cost_64(rt: HostRuntime) {
+    let alloc = rt.alloc();
+    assert_eq!(rt; event_cost(alloc, Event::Connect { uid: 1000 }), 64);
+    assert_eq!(rt; event_cost(alloc, Event::Returned { serial: 3 }), 64);
+    assert_eq!(rt; event_cost(alloc, Event::Passed), 64);
+    assert_eq!(rt; event_cost(alloc, Event::Depart), 64);
+    assert_eq!(rt; event_cost(alloc, Event::Load { load: 1 }), 64);
+    assert_eq!(rt; event_cost(alloc, Event::LoadFailed { code: 2 }), 64);
+    assert_eq!(rt; event_cost(alloc, Event::Stop), 64);
+    assert_eq!(rt; event_cost(alloc, Event::Collect { of: 4 }), 64);
+}
+
+#[test]
+fn calls_without_texts_cost_64(rt: HostRuntime) {
+    let alloc = rt.alloc();
+    let announce = Call::Announce { pid: 5, start: 5 };
+    let wrong = Call::Wrong {
+        cause: ErrorCause::UnknownMethod,
+    };
+    let subject = Subject::Process { pid: 51, start: 8 };
+    assert_eq!(rt; call_cost(alloc, announce), 64);
+    assert_eq!(rt; call_cost(alloc, Call::Reload), 64);
+    assert_eq!(rt; call_cost(alloc, wrong), 64);
+    assert_eq!(rt; call_cost(alloc, Call::RevokeAll { subject }), 64);
+}
+
+fn check(alloc: Global) -> Result<Call, Fail> {
+    Ok(Call::Check {
+        subject: session(alloc, 1)?,
+        action: text(alloc, 2)?,
+        details: pairs(alloc, 4, 8)?,
+        flags: 1,
+        cancel: text(alloc, 16)?,
+    })
+}
+
+fn register(alloc: Global) -> Result<Call, Fail> {
+    Ok(Call::Register {
+        subject: session(alloc, 1)?,
+        locale: text(alloc, 2)?,
+        path: text(alloc, 4)?,
+    })
+}
+
+fn unregister(alloc: Global) -> Result<Call, Fail> {
+    Ok(Call::Unregister {
+        subject: bus_name(alloc, 1)?,
+        path: text(alloc, 2)?,
+    })
+}
+
+fn respond(alloc: Global) -> Result<Call, Fail> {
+    Ok(Call::Respond {
+        cookie: text(alloc, 1)?,
+        identity: Identity::User(0),
+    })
+}
+
+#[test]
+fn calls_cost_their_texts_pairs_and_identities(rt: HostRuntime) -> Result<(), Fail> {
+    let alloc = rt.alloc();
+    assert_eq!(rt; call_cost(alloc, check(alloc)?), 64 + 64 + 31);
+    assert_eq!(rt; call_cost(alloc, register(alloc)?), 64 + 7);
+    assert_eq!(rt; call_cost(alloc, unregister(alloc)?), 64 + 3);
+    assert_eq!(rt; call_cost(alloc, respond(alloc)?), 64 + 64 + 1);
+    Ok(())
+}
+
+#[test]
+fn calls_of_one_text_cost_it(rt: HostRuntime) -> Result<(), Fail> {
+    let alloc = rt.alloc();
+    let cancel = text(alloc, 1)?;
+    assert_eq!(rt; call_cost(alloc, Call::Cancel { cancel }), 64 + 1);
+    let locale = text(alloc, 2)?;
+    assert_eq!(rt; call_cost(alloc, Call::EnumerateActions { locale }), 64 + 2);
+    let subject = bus_name(alloc, 4)?;
+    assert_eq!(rt; call_cost(alloc, Call::EnumerateGrants { subject }), 64 + 4);
+    let subject = session(alloc, 8)?;
+    assert_eq!(rt; call_cost(alloc, Call::RevokeAll { subject }), 64 + 8);
+    let id = text(alloc, 16)?;
+    assert_eq!(rt; call_cost(alloc, Call::RevokeOne { id }), 64 + 16);
+    Ok(())
+}
+
+#[test]
+fn an_error_of_an_agent_costs_its_name(rt: HostRuntime) -> Result<(), Fail> {
+    let alloc = rt.alloc();
+    let name = text(alloc, 32)?;
+    assert_eq!(rt;
+        event_cost(alloc, Event::AgentError { serial: 9, name }),
+        64 + 32
+    );
+    Ok(())
+}
+
+fn verdict(reason: Reason, pairs: PairList) -> Answer {
+    Answer::Verdict(Verdict {
+        yes: true,
+        challenge: false,
+        reason,
+        keep: false,
+        grant: None,
+        pairs,
+    })
+}
+
+fn grant(alloc: Global, action: usize, key: Key) -> Result<GrantRow, Fail> {
+    Ok(GrantRow {
+        id: 0,
+        action: text(alloc, action)?,
+        key,
+        obtained: 5,
+        expires: 305,
+    })
+}
+
+/// A grant for the key of a session, and one for the key of a process.
+fn two_grants(alloc: Global) -> Result<GrantRowList, Fail> {
+    let id = text(alloc, 2)?;
+    let mut rows = one(alloc, grant(alloc, 1, Key::Session { id, uid: 1000 })?)?;
+    let process = Key::Process {
+        pid: 51,
+        start: 8,
+        uid: 1000,
+    };
+    rows.try_push(grant(alloc, 4, process)?)?;
+    Ok(rows)
+}
+
+#[test]
+fn verdicts_cost_the_id_that_implies_and_their_pairs(rt: HostRuntime) -> Result<(), Fail> {
+    let alloc = rt.alloc();
+    let id = text(alloc, 1)?;
+    let implied = verdict(Reason::Imply(id), pairs(alloc, 2, 4)?);
+    assert_eq!(rt; answer_cost(alloc, implied)?, 64 + 64 + 64 + 7);
+    let by_root = verdict(Reason::Root, List::new(alloc));
+    assert_eq!(rt; answer_cost(alloc, by_root)?, 64 + 64);
+    Ok(())
+}
+
+#[test]
+fn answers_cost_their_texts_and_rows(rt: HostRuntime) -> Result<(), Fail> {
+    let alloc = rt.alloc();
+    let name = text(alloc, 8)?;
+    assert_eq!(rt; answer_cost(alloc, Answer::Name(name))?, 64 + 64 + 8);
+    let locale = text(alloc, 16)?;
+    assert_eq!(rt;
+        answer_cost(alloc, Answer::Actions { load: 1, locale })?,
+        64 + 64 + 16
+    );
+    let rows = two_grants(alloc)?;
+    assert_eq!(rt;
+        answer_cost(alloc, Answer::Grants(rows))?,
+        64 + 64 + 2 * 64 + 7
+    );
+    assert_eq!(rt; answer_cost(alloc, Answer::Done)?, 64 + 64);
+    assert_eq!(rt;
+        answer_cost(alloc, Answer::Refused(ErrorCause::NotYours))?,
+        64 + 64
+    );
+    Ok(())
+}
+
+fn two_identities(alloc: Global) -> Result<IdentityList, Fail> {
+    let mut identities = one(alloc, Identity::User(0))?;
+    identities.try_push(Identity::Group(4))?;
+    Ok(identities)
+}
+
+const COOKIE: Cookie = Cookie { serial: 1, salt: 7 };
+
+fn begin(alloc: Global) -> Result<Message, Fail> {
+    Ok(Message::Begin {
+        path: text(alloc, 1)?,
+        action: text(alloc, 2)?,
+        text: text(alloc, 4)?,
+        icon: text(alloc, 8)?,
+        details: pairs(alloc, 16, 32)?,
+        cookie: COOKIE,
+        identities: two_identities(alloc)?,
+    })
+}
+
+fn cancel_begin(alloc: Global, path: usize) -> Result<Message, Fail> {
+    Ok(Message::CancelBegin {
+        path: text(alloc, path)?,
+        cookie: COOKIE,
+    })
+}
+
+#[test]
+fn messages_cost_their_texts_pairs_and_identities(rt: HostRuntime) -> Result<(), Fail> {
+    let alloc = rt.alloc();
+    assert_eq!(rt;
+        message_cost(alloc, begin(alloc)?)?,
+        64 + 64 + 64 + 2 * 64 + 63
+    );
+    assert_eq!(rt; message_cost(alloc, cancel_begin(alloc, 1)?)?, 64 + 64 + 1);
+    assert_eq!(rt; message_cost(alloc, Message::Changed)?, 64 + 64);
+    assert_eq!(rt; message_cost(alloc, Message::LoadWanted)?, 64 + 64);
+    assert_eq!(rt; message_cost(alloc, Message::StopWanted)?, 64 + 64);
+    Ok(())
+}
+
+fn two_outputs(alloc: Global) -> Result<OutputList, Fail> {
+    let message = cancel_begin(alloc, 2)?;
+    let mut outputs = one(alloc, Output { to: 2, message })?;
+    let message = Message::Changed;
+    outputs.try_push(Output { to: 1, message })?;
+    Ok(outputs)
+}
+
+#[test]
+fn an_entry_costs_its_event_and_each_output(rt: HostRuntime) -> Result<(), Fail> {
+    let alloc = rt.alloc();
+    let name = text(alloc, 1)?;
+    let entry = Entry {
+        caller: 1,
+        moment: 5,
+        salt: 7,
+        event: Event::AgentError { serial: 9, name },
+        outputs: two_outputs(alloc)?,
+    };
+    assert_eq!(rt; cost_of_entry(&entry), 64 + 1 + 64 + 2 + 64);
+    Ok(())
+}
+
+fn localized(alloc: Global, lang: usize, words: usize) -> Result<LocalizedList, Fail> {
+    let lang = text(alloc, lang)?;
+    let text = text(alloc, words)?;
+    one(alloc, Localized { lang, text })
+}
+
+/// An action whose id has so many bytes, without other texts.
+fn plain(alloc: Global, id: usize) -> Result<Action, Fail> {
+    let id = ActionId::read(&text(alloc, id)?)?;
+    Ok(Action::plain(alloc, id, Implicit::No, Implicit::No, Implicit::Yes))
+}
+
+fn action_cost(alloc: Global, action: Action) -> Result<u64, Fail> {
+    let mut loaded = Loaded::empty(alloc);
+    loaded.policy.actions = one(alloc, action)?;
+    Ok(cost_of_load(&loaded))
+}
+
+/// An action with a description, a message and a vendor.
+fn described(alloc: Global) -> Result<Action, Fail> {
+    let mut action = plain(alloc, 1)?;
+    action.descriptions = localized(alloc, 2, 4)?;
+    action.messages = localized(alloc, 8, 16)?;
+    action.vendor = text(alloc, 32)?;
+    Ok(action)
+}
+
+/// An action with an address, an icon and an annotation.
+fn annotated(alloc: Global) -> Result<Action, Fail> {
+    let mut action = plain(alloc, 1)?;
+    action.vendor_url = text(alloc, 2)?;
+    action.icon = text(alloc, 4)?;
+    action.annotations = pairs(alloc, 8, 16)?;
+    Ok(action)
+}
+
+#[test]
+fn actions_cost_their_texts_and_annotations(rt: HostRuntime) -> Result<(), Fail> {
+    let alloc = rt.alloc();
+    assert_eq!(rt; action_cost(alloc, plain(alloc, 32)?)?, 64 + 32);
+    assert_eq!(rt; action_cost(alloc, described(alloc)?)?, 64 + 2 * 64 + 63);
+    assert_eq!(rt; action_cost(alloc, annotated(alloc)?)?, 64 + 64 + 31);
+    Ok(())
+}
+
+fn texts(alloc: Global, first: usize, second: usize) -> Result<TextList, Fail> {
+    let mut texts = one(alloc, text(alloc, first)?)?;
+    texts.try_push(text(alloc, second)?)?;
+    Ok(texts)
+}
+
+fn rule(alloc: Global) -> Result<RuleEntry, Fail> {
+    Ok(RuleEntry {
+        identities: texts(alloc, 1, 2)?,
+        actions: one(alloc, text(alloc, 4)?)?,
+        any: None,
+        inactive: None,
+        active: Some(Implicit::Yes),
+        pairs: pairs(alloc, 8, 16)?,
+    })
+}
+
+#[test]
+fn rules_and_administrators_cost_their_texts(rt: HostRuntime) -> Result<(), Fail> {
+    let alloc = rt.alloc();
+    let mut loaded = Loaded::empty(alloc);
+    loaded.policy.entries = one(alloc, rule(alloc)?)?;
+    assert_eq!(rt; cost_of_load(&loaded), 64 + 64 + 31);
+    let mut loaded = Loaded::empty(alloc);
+    loaded.policy.admins = texts(alloc, 1, 2)?;
+    assert_eq!(rt; cost_of_load(&loaded), 3);
+    Ok(())
+}
+
+#[test]
+fn what_was_skipped_costs_its_texts(rt: HostRuntime) -> Result<(), Fail> {
+    let alloc = rt.alloc();
+    let file = text(alloc, 1)?;
+    let kind = text(alloc, 2)?;
+    let mut loaded = Loaded::empty(alloc);
+    loaded.faults = one(alloc, FileFault { file, kind, at: 3 })?;
+    assert_eq!(rt; cost_of_load(&loaded), 3);
+    Ok(())
+}
+
+fn user(alloc: Global) -> Result<User, Fail> {
+    Ok(User {
+        uid: 1000,
+        name: text(alloc, 1)?,
+        label: text(alloc, 2)?,
+        gids: List::try_from_slice(alloc, &[1000, 4, 27])?,
+    })
+}
+
+fn group(alloc: Global) -> Result<Group, Fail> {
+    Ok(Group {
+        gid: 4,
+        name: text(alloc, 4)?,
+        label: text(alloc, 8)?,
+    })
+}
+
+fn seat(alloc: Global) -> Result<Session, Fail> {
+    Ok(Session {
+        id: text(alloc, 16)?,
+        uid: 1000,
+        local: true,
+        active: true,
+    })
+}
+
+fn process(session: Option<Text>) -> Process {
+    Process {
+        pid: 51,
+        start: 8,
+        uid: 1000,
+        session,
+    }
+}
+
+#[test]
+fn users_and_groups_cost_their_texts_and_memberships(rt: HostRuntime) -> Result<(), Fail> {
+    let alloc = rt.alloc();
+    let mut loaded = Loaded::empty(alloc);
+    loaded.world.users = one(alloc, user(alloc)?)?;
+    assert_eq!(rt; cost_of_load(&loaded), 64 + 3 * 64 + 3);
+    let mut loaded = Loaded::empty(alloc);
+    loaded.world.groups = one(alloc, group(alloc)?)?;
+    assert_eq!(rt; cost_of_load(&loaded), 64 + 12);
+    Ok(())
+}
+
+#[test]
+fn sessions_and_processes_cost_the_ids_of_sessions(rt: HostRuntime) -> Result<(), Fail> {
+    let alloc = rt.alloc();
+    let mut loaded = Loaded::empty(alloc);
+    loaded.world.sessions = one(alloc, seat(alloc)?)?;
+    assert_eq!(rt; cost_of_load(&loaded), 64 + 16);
+    let id = text(alloc, 32)?;
+    let mut loaded = Loaded::empty(alloc);
+    loaded.world.processes = one(alloc, process(Some(id)))?;
+    loaded.world.processes.try_push(process(None))?;
+    assert_eq!(rt; cost_of_load(&loaded), 64 + 32 + 64);
+    Ok(())
+}
+
+/// A journal of an empty load and of a connection counts 128 bytes.
+#[test]
+fn an_empty_load_and_a_connection_cost_128(rt: HostRuntime) {
+    let alloc = rt.alloc();
+    let load = event_cost(alloc, Event::Load { load: 1 });
+    let loaded = cost_of_load(&Loaded::empty(alloc));
+    let connect = event_cost(alloc, Event::Connect { uid: 1000 });
+    assert_eq!(rt; load, 64);
+    assert_eq!(rt; loaded, 0);
+    assert_eq!(rt; connect, 64);
+}
+
+#[test]
+fn costs_stop_at_the_greatest(rt: HostRuntime) {
+    let greatest = Cost::of_bytes(MAX_COST);
+    assert_eq!(rt; MAX_COST, 4_611_686_018_427_387_904);
+    assert_eq!(rt;
+        Cost::of_bytes(MAX_COST - 1).plus(Cost::of_bytes(1)).bytes(),
+        MAX_COST
+    );
+    assert_eq!(rt; greatest.plus(Cost::of_bytes(1)).bytes(), MAX_COST);
+    assert_eq!(rt; greatest.plus(greatest).bytes(), MAX_COST);
+    assert_eq!(rt; Cost::of_bytes(u64::MAX).bytes(), MAX_COST);
+    assert_eq!(rt; Cost::of_rows(3).bytes(), 192);
+    assert_eq!(rt; Cost::of_rows(usize::MAX).bytes(), MAX_COST);
+}
