@@ -9,5 +9,6 @@ pub mod Refusals
 pub mod Memory
 pub mod Held
 pub mod HeldLink
+pub mod HeldTree
 pub mod Empty
 pub mod Real

@@ -1,5 +1,5 @@
 -- Why a tree or a station refused.
-use Rattle.std.specs.Prelude.{ℕ, ◌≤◌, Result, IfErr}
+use Rattle.std.specs.Prelude.{ℕ, ◌≤◌, Bool, true, false, Result, Ok, Err, IfErr}
 use Rattle.pk_outside.specs.Causes.{Rose}
 use Rattle.pk_outside.specs.declared.tree.TreeRefused.{TreeRefused}
 use Rattle.pk_outside.specs.declared.tree.TreeRefused.TheVariants as tree_refused
@@ -10,6 +10,12 @@ use Rattle.pk_outside.specs.declared.station.StationRefused.TheVariants as stati
 abbrev pub TreeRefusal : ℕ → ℕ → TreeRefused → Type 0
 TreeRefusal before now tree_refused.Failed = Rose before now
 TreeRefusal before now tree_refused.NoMemory = Unit {0}
+
+-- A call on a tree failed; want of memory is no failure of the tree.
+abbrev pub has_failed : {T : Type 0} → Result T TreeRefused → Bool
+has_failed (Ok value) = false
+has_failed (Err tree_refused.Failed) = true
+has_failed (Err tree_refused.NoMemory) = false
 
 -- A call on a tree never lowers its count, and is refused for its cause.
 pub record TreeCause {T : Type 0} (before now : ℕ) (result : Result T TreeRefused) : Type 0 where

@@ -1,40 +1,28 @@
 -- What a tree of files tells, and what it answers.
-use Rattle.std.specs.Prelude.{◌≡◌, ◌∷◌, [], List, ℕ, Option, None, Some, Result, IfOk, IfSome, nat_lt, if◌then◌else◌, length}
+use Rattle.std.specs.Prelude.{◌≡◌, List, ℕ, Option, None, Some, Result, IfOk, IfSome, nat_lt, if◌then◌else◌, length, find, option_map}
 use Rattle.std.specs.Str.{bytes_eq}
 use Rattle.pk_outside.specs.declared.tree.Names.{Names}
 use Rattle.pk_outside.specs.declared.tree.Names.TheVariants as names
 use Rattle.pk_outside.specs.declared.tree.FileBytes.{FileBytes}
 use Rattle.pk_outside.specs.declared.tree.FileBytes.TheVariants as file_bytes
-
--- A file of a tree.
-pub record File : Type 0 where
-  pub path : List ℕ
-  pub bytes : List ℕ
-
--- A directory of a tree: the names in it that are text, and how many are not.
-pub record Directory : Type 0 where
-  pub path : List ℕ
-  pub names : List (List ℕ)
-  pub unnamed : ℕ
+use Rattle.pk_outside.specs.declared.tree.TreeDirectory.{TreeDirectory}
+use Rattle.pk_outside.specs.declared.tree.TreeFile.{TreeFile}
 
 -- All files and directories of a tree. Of two with one path the first counts.
 pub record TreeTold : Type 0 where
-  pub files : List File
-  pub directories : List Directory
+  pub files : List TreeFile
+  pub directories : List TreeDirectory
 
 -- The bytes of the file that stands at the path.
-abbrev pub file_at : List File → List ℕ → Option (List ℕ)
-file_at [] path = None
-file_at (file ∷ files) path = if bytes_eq file.path path then Some file.bytes else file_at files path
+abbrev pub file_at : List TreeFile → List ℕ → Option (List ℕ)
+file_at files path = option_map (λ f. f.bytes) (find (λ f. bytes_eq f.path path) files)
 
 -- The directory that stands at the path.
-abbrev pub directory_at : List Directory → List ℕ → Option Directory
-directory_at [] path = None
-directory_at (directory ∷ directories) path =
-    if bytes_eq directory.path path then Some directory else directory_at directories path
+abbrev pub directory_at : List TreeDirectory → List ℕ → Option TreeDirectory
+directory_at directories path = find (λ d. bytes_eq d.path path) directories
 
 -- The names of a directory, and `Absent` exactly where there is none.
-abbrev pub names_of : Option Directory → Names
+abbrev pub names_of : Option TreeDirectory → Names
 names_of None = names.Absent
 names_of (Some directory) = names.Listed directory.names directory.unnamed
 

@@ -9,6 +9,9 @@
 #![tactic(auto)]
 
 mod clock;
+mod dir_tree;
+#[cfg(test)]
+mod dir_tree_tests;
 mod door;
 mod link;
 mod memory;
@@ -20,6 +23,7 @@ mod tests;
 mod tree;
 
 pub use clock::{Clock, Salt};
+pub use dir_tree::DirTree;
 pub use door::{Accepted, Door};
 pub use link::{Ends, Link};
 pub use memory::{
@@ -29,4 +33,4 @@ pub use memory::{
 pub use real::{ReadSource, WriteSink};
 pub use station::{Station, StationRefused};
 pub use stream::{Failed, Sink, Source, write_all};
-pub use tree::{FileBytes, Names, Tree, TreeRefused};
+pub use tree::{FileBytes, Names, Tree, TreeDirectory, TreeFile, TreeRefused};

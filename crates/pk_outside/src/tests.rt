@@ -2,9 +2,9 @@
 use crate::{
     Accepted, ByteLink, ByteSink, ByteSource, Clock, Door, Failed, FileBytes, Link, ListStation,
     ListTree, Names, ReadSource, Salt, Sink, Source, Station, SureSink, SureSource, SureTree, Tree,
-    WriteSink, write_all,
+    TreeDirectory, TreeFile, TreeRefused, WriteSink, write_all,
 };
-use pk_types::Text;
+use pk_types::{List, Text};
 use std::alloc::{AllocError, Global};
 use std::io;
 use std::test::Fail;
@@ -50,22 +50,100 @@ fn path(alloc: Global) -> Result<Text, Fail> {
     Ok(Text::try_from_bytes(alloc, b"/u")?)
 }
 
+/// The text of these bytes.
+fn text(alloc: Global, bytes: &[u8]) -> Result<Text, Fail> {
+    Ok(Text::try_from_bytes(alloc, bytes)?)
+}
+
+/// The file `/d/a` with the bytes `abc`.
+fn files(alloc: Global) -> Result<List<TreeFile>, Fail> {
+    let mut files = List::new(alloc);
+    let file = TreeFile {
+        path: text(alloc, b"/d/a")?,
+        bytes: List::try_from_slice(alloc, b"abc").map_err(|_| AllocError)?,
+    };
+    files.try_push(file).map_err(|_| AllocError)?;
+    Ok(files)
+}
+
+/// The directory `/d` with the name `a` and two names that are no text.
+fn directories(alloc: Global) -> Result<List<TreeDirectory>, Fail> {
+    let mut names = List::new(alloc);
+    names.try_push(text(alloc, b"a")?).map_err(|_| AllocError)?;
+    let mut directories = List::new(alloc);
+    let directory = TreeDirectory {
+        path: text(alloc, b"/d")?,
+        names,
+        unnamed: 2,
+    };
+    directories.try_push(directory).map_err(|_| AllocError)?;
+    Ok(directories)
+}
+
+/// Whether a tree lists `/d` with one name and two that are no text.
+fn lists_two_unnamed<T: Tree>(tree: &mut T, path: &Text) -> bool {
+    match tree.names(path) {
+        Ok(Names::Listed { names, unnamed }) => names.len() == 1 && unnamed == 2,
+        _ => false,
+    }
+}
+
+/// Whether a tree reads `abc` at the path.
+fn reads_abc<T: Tree>(tree: &mut T, path: &Text) -> bool {
+    match tree.read(path, 3) {
+        Ok(FileBytes::Bytes(bytes)) => bytes.as_slice() == b"abc".as_slice(),
+        _ => false,
+    }
+}
+
+/// Whether a tree's file is too long for a limit of two bytes.
+fn is_too_long<T: Tree>(tree: &mut T, path: &Text) -> bool {
+    matches!(tree.read(path, 2), Ok(FileBytes::TooLong))
+}
+
+/// Whether a tree finds no directory at the path.
+fn has_no_directory<T: Tree>(tree: &mut T, path: &Text) -> bool {
+    matches!(tree.names(path), Ok(Names::Absent))
+}
+
 #[test]
-fn trees_in_memory_hold_nothing(rt: HostRuntime) -> Result<(), Fail> {
-    let path = path(rt.alloc())?;
-    let mut tree = ListTree::new();
-    assert!(rt; matches!(tree.names(&path), Ok(Names::Absent)));
-    assert!(rt; matches!(tree.read(&path, 9), Ok(FileBytes::Absent)));
-    assert_eq!(rt; tree.faults(), 0);
+fn tree_in_memory_gives_its_files(rt: HostRuntime) -> Result<(), Fail> {
+    let alloc = rt.alloc();
+    let (directory, file) = (text(alloc, b"/d")?, text(alloc, b"/d/a")?);
+    let mut tree = ListTree::new(alloc, files(alloc)?, directories(alloc)?, Vec::new(alloc));
+    assert!(rt; lists_two_unnamed(&mut tree, &directory));
+    assert!(rt; reads_abc(&mut tree, &file));
+    assert!(rt; is_too_long(&mut tree, &file));
+    assert!(rt; matches!(tree.read(&directory, 9), Ok(FileBytes::Absent)));
+    assert!(rt; has_no_directory(&mut tree, &file));
+    assert!(rt; has_no_directory(&mut ListTree::empty(alloc), &directory));
     Ok(())
 }
 
 #[test]
-fn sure_tree_holds_nothing(rt: HostRuntime) -> Result<(), Fail> {
-    let path = path(rt.alloc())?;
-    let mut tree = SureTree::new();
-    assert!(rt; matches!(tree.names(&path), Ok(Names::Absent)));
-    assert!(rt; matches!(tree.read(&path, 9), Ok(FileBytes::Absent)));
+fn tree_in_memory_fails_at_the_listed_calls(rt: HostRuntime) -> Result<(), Fail> {
+    let alloc = rt.alloc();
+    let path = path(alloc)?;
+    let failing = vec![in alloc; 2, 3]?;
+    let mut tree = ListTree::new(alloc, List::new(alloc), List::new(alloc), failing);
+    assert!(rt; has_no_directory(&mut tree, &path));
+    assert!(rt; matches!(tree.names(&path), Err(TreeRefused::Failed)));
+    assert!(rt; matches!(tree.read(&path, 3), Err(TreeRefused::Failed)));
+    assert!(rt; has_no_directory(&mut tree, &path));
+    assert_eq!(rt; tree.faults(), 2);
+    Ok(())
+}
+
+#[test]
+fn sure_tree_gives_its_files(rt: HostRuntime) -> Result<(), Fail> {
+    let alloc = rt.alloc();
+    let (directory, file) = (text(alloc, b"/d")?, text(alloc, b"/d/a")?);
+    let mut tree = SureTree::new(alloc, files(alloc)?, directories(alloc)?);
+    assert!(rt; lists_two_unnamed(&mut tree, &directory));
+    assert!(rt; reads_abc(&mut tree, &file));
+    assert!(rt; is_too_long(&mut tree, &file));
+    assert!(rt; has_no_directory(&mut tree, &file));
+    assert_eq!(rt; tree.faults(), 0);
     Ok(())
 }
 

@@ -3,7 +3,7 @@ ghost use Rattle.std.specs.Prelude.{◌≡◌, ℕ, Option};
 ghost use Rattle.pk_outside.specs.Refusals.{TreeCause};
 ghost use Rattle.pk_outside.specs.Trees.{TreeTold, ListsNames, ReadsFile};
 
-use pk_types::{ByteList, Text, TextList};
+use pk_types::{ByteList, NoMemory, Text, TextList};
 
 /// What stands in a directory.
 #[derive(Drop)]
@@ -32,6 +32,34 @@ pub enum TreeRefused {
     Failed,
     /// Memory was refused.
     NoMemory,
+}
+
+impl From<NoMemory> for TreeRefused {
+    ghost use Rattle.std.specs.Prelude.{◌≡◌};
+    ghost use Rattle.pk_outside.specs.declared.tree.TreeRefused.TheVariants as refused;
+
+    ghost from_gives = { λ _ given. given ≡ refused.NoMemory };
+
+    fn from(_: NoMemory) -> Self {
+        TreeRefused::NoMemory
+    }
+}
+
+/// A file of a tree that is told.
+#[derive(Drop)]
+pub struct TreeFile {
+    pub path: Text,
+    pub bytes: ByteList,
+}
+
+/// A directory of a tree that is told.
+#[derive(Drop)]
+pub struct TreeDirectory {
+    pub path: Text,
+    /// The names in it that are text.
+    pub names: TextList,
+    /// How many of its names are not.
+    pub unnamed: u32,
 }
 
 /// Files in directories, each at a path.

@@ -4,5 +4,6 @@ pub mod Fields
 pub mod Users
 pub mod Sessions
 pub mod Processes
+pub mod Groups
 pub mod Sets
 pub mod Kept

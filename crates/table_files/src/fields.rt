@@ -6,7 +6,7 @@ ghost use Rattle.table_files.specs.Fields.{is_name, number_32, number_64};
 
 use crate::fault::TableFault;
 use crate::limits::MAX_NAME;
-use pk_types::{NoMemory, Text, TextFault, bad_byte, number_up_to};
+use pk_types::{NoMemory, Text, bad_byte, number_up_to};
 use std::alloc::Global;
 
 /// Whether a field may be a name or a session id.
@@ -36,18 +36,6 @@ pub fn number_64(line: usize, field: &[u8]) -> Result<u64, TableFault>
     }
 }
 
-/// A text of bytes that are one.
-pub fn text(alloc: Global, bytes: &[u8]) -> Result<Text, NoMemory>
-    requires { IsText bytes.now }
-    ensures text { IfOk result (λ text. text ≡ bytes.now) }
-{
-    match Text::try_from_bytes(alloc, bytes) {
-        Ok(text) => Ok(text),
-        Err(TextFault::NoMemory) => Err(NoMemory),
-        Err(_) => unreachable!(),
-    }
-}
-
 /// A front and a name behind it.
 fn joined(alloc: Global, front: &[u8], name: &[u8]) -> Result<Vec<u8>, NoMemory>
     ensures bytes { IfOk result (λ bytes. bytes.items ≡ front.now ++ name.now) }
@@ -63,5 +51,5 @@ pub fn label(alloc: Global, front: &[u8], name: &[u8]) -> Result<Text, NoMemory>
     ensures text { IfOk result (λ text. text ≡ front.now ++ name.now) }
 {
     let bytes = joined(alloc, front, name)?;
-    text(alloc, &bytes)
+    Text::of_known(alloc, &bytes)
 }

@@ -1,12 +1,19 @@
-//! The files of the tables of a world: users as passwd(5) has them, sessions, and processes.
+//! The files of the tables of a world: users as passwd(5) has them, groups as group(5) has them,
+//! sessions, and processes.
 //!
 //! Each reader gives the rows of a file or its first fault, with the number of the faulty line.
 #![tactic(auto)]
 
 mod fault;
 mod fields;
+#[cfg(test)]
+mod group_tests;
+mod groups;
 mod kept;
+#[cfg(test)]
+mod limit_tests;
 mod limits;
+mod memberships;
 mod names;
 mod processes;
 mod sessions;
@@ -16,6 +23,7 @@ mod tests;
 mod users;
 
 pub use fault::TableFault;
+pub use groups::read_group;
 pub use limits::{MAX_FILE, MAX_NAME, MAX_ROWS};
 pub use processes::read_processes;
 pub use sessions::read_sessions;

@@ -8,7 +8,7 @@ ghost use Rattle.table_files.specs.Sets.{has_name};
 ghost use Rattle.table_files.specs.Kept.{IsName, process_at};
 
 use crate::fault::TableFault;
-use crate::fields::{is_name, number_32, number_64, text};
+use crate::fields::{is_name, number_32, number_64};
 use crate::kept::ProcessTable;
 use crate::limits::MAX_ROWS;
 use crate::names::names_of;
@@ -79,7 +79,7 @@ fn session(alloc: Global, field: &[u8]) -> Result<Option<Text>, NoMemory>
     if is_none(field) {
         return Ok(None);
     }
-    let id = text(alloc, field)?;
+    let id = Text::of_known(alloc, field)?;
     Ok(Some(id))
 }
 

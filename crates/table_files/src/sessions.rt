@@ -5,14 +5,14 @@ ghost use Rattle.table_files.specs.Sessions.{local_of, active_of, session_of_row
 ghost use Rattle.table_files.specs.Kept.{IsName, session_at};
 
 use crate::fault::TableFault;
-use crate::fields::{is_name, number_32, text};
+use crate::fields::{is_name, number_32};
 use crate::kept::SessionTable;
 use crate::limits::MAX_ROWS;
 use crate::table::{Table, read_lines};
 use authority_model::{Session, SessionList};
 use byte_pieces::pieces;
 use indexmap::IndexSet;
-use pk_types::NoMemory;
+use pk_types::{NoMemory, Text};
 use std::alloc::Global;
 
 /// What a row has of a session.
@@ -95,7 +95,7 @@ fn session(alloc: Global, row: &SessionRow<'_>) -> Result<Session, NoMemory>
     requires { IsName row.now.id.now }
     ensures session { IfOk result (λ session. session ≡ session_at row.now) }
 {
-    let id = text(alloc, row.id)?;
+    let id = Text::of_known(alloc, row.id)?;
     Ok(Session {
         id,
         uid: row.uid,

@@ -6,12 +6,12 @@ use std::str;
 use std::test::Fail;
 
 /// A text, which each of these tables has in ASCII.
-fn ascii(bytes: &[u8]) -> &str {
+pub fn ascii(bytes: &[u8]) -> &str {
     str::from_utf8(bytes).unwrap_or("?")
 }
 
 /// A line for each user: the uid, the label and the gids.
-fn users_text(alloc: Global, users: &UserList) -> Result<String, AllocError> {
+pub fn users_text(alloc: Global, users: &UserList) -> Result<String, AllocError> {
     let mut all = String::new(alloc);
     for user in users.as_slice() {
         let label = ascii(user.label.bytes());
@@ -215,30 +215,5 @@ fn faults_of_processes(rt: HostRuntime) -> Result<(), Fail> {
             Err(fault) => assert_eq!(rt; fault, want, "{bytes:?}"),
         }
     }
-    Ok(())
-}
-
-/// So many bytes.
-fn repeated(alloc: Global, byte: u8, n: usize) -> Result<Vec<u8>, AllocError> {
-    let mut bytes = Vec::with_capacity(alloc, n)?;
-    for _ in 0..n {
-        bytes.push(byte)?;
-    }
-    Ok(bytes)
-}
-
-#[test]
-fn limits(rt: HostRuntime) -> Result<(), Fail> {
-    let mut file = repeated(rt.alloc(), b'#', 16_777_216)?;
-    assert!(rt; read_passwd(rt.alloc(), file.as_slice()).is_ok());
-    file.push(b'#')?;
-    assert!(rt; read_passwd(rt.alloc(), file.as_slice()).err() == Some(TableFault::TooLong));
-    let mut row = repeated(rt.alloc(), b's', 4096)?;
-    row.extend_from_slice(b" 1 local active")?;
-    assert!(rt; read_sessions(rt.alloc(), row.as_slice()).is_ok());
-    row.insert(0, b's')?;
-    assert!(rt;
-        read_sessions(rt.alloc(), row.as_slice()).err() == Some(TableFault::Fields { line: 1 })
-    );
     Ok(())
 }

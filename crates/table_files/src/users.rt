@@ -5,14 +5,14 @@ ghost use Rattle.table_files.specs.Users.{user_of_row, user_of_fields, user_stan
 ghost use Rattle.table_files.specs.Kept.{IsName, user_in};
 
 use crate::fault::TableFault;
-use crate::fields::{is_name, label, number_32, text};
+use crate::fields::{is_name, label, number_32};
 use crate::kept::UserTable;
 use crate::limits::MAX_ROWS;
 use crate::table::{Table, read_lines};
 use authority_model::{GidList, User, UserList};
 use byte_pieces::pieces;
 use indexmap::IndexSet;
-use pk_types::NoMemory;
+use pk_types::{NoMemory, Text};
 use std::alloc::Global;
 
 /// What a row has of a user.
@@ -52,7 +52,7 @@ fn user(alloc: Global, row: &UserRow<'_>) -> Result<User, NoMemory>
     requires { IsName row.now.name.now }
     ensures user { IfOk result (λ user. user ≡ user_in row.now) }
 {
-    let name = text(alloc, row.name)?;
+    let name = Text::of_known(alloc, row.name)?;
     let label = label(alloc, b"unix-user:".as_slice(), row.name)?;
     let gids = GidList::try_from_slice(alloc, [row.gid].as_slice())?;
     Ok(User {

@@ -1,49 +1,12 @@
-// Trees, doors, clocks, random words and stations in memory that hold nothing.
+// Doors, clocks, random words and stations in memory that hold nothing.
 ghost use Rattle.std.specs.Prelude.{◌≡◌};
 ghost use Rattle.pk_outside.specs.Causes.{RoseWhere};
 ghost use Rattle.pk_outside.specs.Empty.{door_uid, station_faults};
 ghost use Rattle.pk_outside.specs.Held.{source_calls, sink_calls};
 ghost use Rattle.pk_outside.specs.Stations.{has_fault};
 
-use crate::{
-    Accepted, ByteLink, Clock, Door, Ends, FileBytes, Names, Salt, Station, StationRefused, Tree,
-    TreeRefused,
-};
+use crate::{Accepted, ByteLink, Clock, Door, Ends, Salt, Station, StationRefused};
 use pk_types::Text;
-
-/// A tree in memory, without a file and without a directory.
-#[derive(Drop)]
-pub struct ListTree {}
-
-impl ListTree {
-    /// The empty tree. It takes no memory.
-    pub fn new() -> Self {
-        ListTree {}
-    }
-}
-
-impl Tree for ListTree {
-    ghost use Rattle.std.specs.Prelude.{[], Some};
-
-    ghost told = { λ _. Some (record { files = []; directories = [] }) };
-
-    ghost faults = { λ _. 0 };
-
-    fn faults(&self) -> u64 {
-        0
-    }
-
-    fn names(&mut self, _path: &Text) -> Result<Names, TreeRefused> {
-        Ok(Names::Absent)
-    }
-
-    fn read(&mut self, _path: &Text, _limit: u64) -> Result<FileBytes, TreeRefused> {
-        Ok(FileBytes::Absent)
-    }
-}
-
-/// A tree in memory that never fails: a `ListTree`, whose count of faults is always 0.
-pub type SureTree = ListTree;
 
 /// A door in memory that has no link to give.
 #[derive(Drop)]

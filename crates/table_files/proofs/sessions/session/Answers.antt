@@ -1,5 +1,5 @@
 use Rattle.table_files.proofs.Texts.{name_text}
 use Rattle.table_files.proofs.sessions.session.Goals as goal
 
-pub text-requires : goal.text-requires
-text-requires c = name_text c.args.row.now.id.now c.requires
+pub of_known-requires : goal.of_known-requires
+of_known-requires c = record { text = name_text c.args.row.now.id.now c.requires }

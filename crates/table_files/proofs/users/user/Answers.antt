@@ -5,8 +5,8 @@ use Rattle.pk_types.specs.Text.{IsText}
 use Rattle.table_files.proofs.Texts.{name_text, label_text}
 use Rattle.table_files.proofs.users.user.Goals as goal
 
-pub text-requires : goal.text-requires
-text-requires c = name_text c.args.row.now.name.now c.requires
+pub of_known-requires : goal.of_known-requires
+of_known-requires c = record { text = name_text c.args.row.now.name.now c.requires }
 
 pub label-requires : goal.label-requires
 label-requires c =
