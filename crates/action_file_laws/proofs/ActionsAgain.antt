@@ -7,13 +7,13 @@ use Rattle.xml_pieces.specs.Reading.{◌>>=◌, On, Done, steps}
 use Rattle.xml_pieces.specs.Texts.{value_of}
 use Rattle.xml_pieces.specs.Keyed.{has_key, set_key}
 use Rattle.xml_pieces.specs.Children.{End, next}
-use Rattle.action_xml.specs.declared.draft.Origin.{Origin}
-use Rattle.action_xml.specs.declared.draft.OriginPart.{OriginPart}
-use Rattle.action_xml.specs.declared.draft.OriginPart.TheVariants as part
-use Rattle.action_xml.specs.declared.draft.ActionDraft.{ActionDraft}
-use Rattle.action_xml.specs.Origins.{origin_part, origin_of, with_origin, origin_element}
-use Rattle.action_xml.specs.Defaults.{defaults_element}
-use Rattle.action_xml.specs.Actions.{localized, annotation, origin_child, action_child, in_action, action_step, new_action, action_elements, in_tag, action}
+use Rattle.action_drafts.specs.declared.draft.Origin.{Origin}
+use Rattle.action_drafts.specs.declared.draft.OriginPart.{OriginPart}
+use Rattle.action_drafts.specs.declared.draft.OriginPart.TheVariants as part
+use Rattle.action_drafts.specs.declared.draft.ActionDraft.{ActionDraft}
+use Rattle.action_drafts.specs.Origins.{origin_part, origin_of, with_origin, origin_element}
+use Rattle.action_drafts.specs.Defaults.{defaults_element}
+use Rattle.action_drafts.specs.Actions.{localized, annotation, origin_child, action_child, in_action, action_step, new_action, action_elements, in_tag, action}
 use Rattle.action_file_laws.specs.TextForm.{IsName}
 use Rattle.action_file_laws.specs.TagForm.{tag_bytes}
 use Rattle.action_file_laws.specs.GapForm.{gaps_bytes}

@@ -12,14 +12,14 @@ use Rattle.xml_pieces.specs.Reading.{◌>>=◌, fault_at, Step, On, Done, steps}
 use Rattle.xml_pieces.specs.Texts.{Tag, tag, text, value_of}
 use Rattle.xml_pieces.specs.Keyed.{has_key, set_key}
 use Rattle.xml_pieces.specs.Children.{Next, Child, End, next}
-use Rattle.action_xml.specs.declared.draft.Origin.{Origin}
-use Rattle.action_xml.specs.declared.draft.OriginPart.{OriginPart}
-use Rattle.action_xml.specs.declared.draft.OriginPart.TheVariants as part
-use Rattle.action_xml.specs.declared.draft.ActionDraft.{ActionDraft}
-use Rattle.action_xml.specs.Elements.{needed}
-use Rattle.action_xml.specs.Origins.{origin_part, origin_of, with_origin, origin_element}
-use Rattle.action_xml.specs.Defaults.{defaults_element}
-use Rattle.action_xml.specs.Actions.{lang_of, localized, annotation, InAction, action_child, in_action, action_step, new_action, action_elements, action_id, in_tag, action}
+use Rattle.action_drafts.specs.declared.draft.Origin.{Origin}
+use Rattle.action_drafts.specs.declared.draft.OriginPart.{OriginPart}
+use Rattle.action_drafts.specs.declared.draft.OriginPart.TheVariants as part
+use Rattle.action_drafts.specs.declared.draft.ActionDraft.{ActionDraft}
+use Rattle.action_drafts.specs.Elements.{needed}
+use Rattle.action_drafts.specs.Origins.{origin_part, origin_of, with_origin, origin_element}
+use Rattle.action_drafts.specs.Defaults.{defaults_element}
+use Rattle.action_drafts.specs.Actions.{lang_of, localized, annotation, InAction, action_child, in_action, action_step, new_action, action_elements, action_id, in_tag, action}
 use Rattle.action_file_laws.specs.TagForm.{tag_bytes}
 use Rattle.action_file_laws.specs.GapForm.{Gap, gaps_bytes, AreGaps}
 use Rattle.action_file_laws.specs.TextElementForm.{TextElement, text_of, attributes_of, end_bytes, behind_name_bytes, IsTextElement}

@@ -10,9 +10,9 @@ use Rattle.pk_types.specs.declared.values.Category.TheVariants as category
 use Rattle.xml_pieces.specs.Reading.{◌>>=◌, On, Done, steps}
 use Rattle.xml_pieces.specs.Texts.{tag}
 use Rattle.xml_pieces.specs.Children.{End, next}
-use Rattle.action_xml.specs.declared.draft.Defaults.{Defaults}
-use Rattle.action_xml.specs.Elements.{goes_on}
-use Rattle.action_xml.specs.Defaults.{trim, default_of, with_default, no_defaults, default_part, default_element, default_child, in_defaults, defaults_step, default_elements, defaults, defaults_element}
+use Rattle.action_drafts.specs.declared.draft.Defaults.{Defaults}
+use Rattle.action_drafts.specs.Elements.{goes_on}
+use Rattle.action_drafts.specs.Defaults.{trim, default_of, with_default, no_defaults, default_part, default_element, default_child, in_defaults, defaults_step, default_elements, defaults, defaults_element}
 use Rattle.action_file_laws.specs.TextForm.{IsName}
 use Rattle.action_file_laws.specs.GapForm.{gaps_bytes}
 use Rattle.action_file_laws.specs.TextElementForm.{TextElement, text_of, attributes_of, end_bytes, behind_name_bytes, IsTextElement}

@@ -12,8 +12,8 @@ use Rattle.xml_pieces.specs.declared.fault.XmlFaultKind.TheVariants as kind
 use Rattle.xml_pieces.specs.Reading.{◌>>=◌, fault_at, Step, On, Done, steps}
 use Rattle.xml_pieces.specs.Texts.{Tag, tag, text}
 use Rattle.xml_pieces.specs.Children.{Next, Child, End, next}
-use Rattle.action_xml.specs.declared.draft.Defaults.{Defaults}
-use Rattle.action_xml.specs.Defaults.{trim, default_of, with_default, no_defaults, default_part, word_of, default_element, default_child, in_defaults, defaults_step, default_elements, defaults, defaults_element}
+use Rattle.action_drafts.specs.declared.draft.Defaults.{Defaults}
+use Rattle.action_drafts.specs.Defaults.{trim, default_of, with_default, no_defaults, default_part, word_of, default_element, default_child, in_defaults, defaults_step, default_elements, defaults, defaults_element}
 use Rattle.action_file_laws.specs.GapForm.{Gap, gaps_bytes, AreGaps}
 use Rattle.action_file_laws.specs.TextElementForm.{TextElement, text_of, end_bytes, behind_name_bytes, IsTextElement}
 use Rattle.action_file_laws.specs.RowForm.{Row, Parent, between_bytes, SaysAll}

@@ -18,3 +18,7 @@ pub mod ActionsAgain
 pub mod ActionsFound
 pub mod RootAgain
 pub mod RootFound
+pub mod PrologAgain
+pub mod PrologFound
+pub mod DocumentAgain
+pub mod DocumentFound

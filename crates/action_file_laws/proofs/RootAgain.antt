@@ -7,8 +7,8 @@ use Rattle.xml_pieces.specs.Reading.{◌>>=◌, fault_at, On, Done, steps}
 use Rattle.xml_pieces.specs.Bytes.{name}
 use Rattle.xml_pieces.specs.Texts.{tag}
 use Rattle.xml_pieces.specs.Children.{End, next}
-use Rattle.action_xml.specs.declared.draft.FileDraft.{FileDraft}
-use Rattle.action_xml.specs.Documents.{file_child, in_file, file_step, no_actions, file_elements, in_root, root}
+use Rattle.action_drafts.specs.declared.draft.FileDraft.{FileDraft}
+use Rattle.action_drafts.specs.Documents.{file_child, in_file, file_step, no_actions, file_elements, in_root, root}
 use Rattle.action_file_laws.specs.TextForm.{IsName}
 use Rattle.action_file_laws.specs.TagForm.{Attr, AreFineIds, tag_bytes}
 use Rattle.action_file_laws.specs.GapForm.{gaps_bytes}

@@ -9,11 +9,11 @@ use Rattle.xml_pieces.specs.Reading.{◌>>=◌, fault_at, Step, On, Done, steps}
 use Rattle.xml_pieces.specs.Bytes.{name}
 use Rattle.xml_pieces.specs.Texts.{Tag, tag}
 use Rattle.xml_pieces.specs.Children.{Next, Child, End, next}
-use Rattle.action_xml.specs.declared.draft.OriginPart.{OriginPart}
-use Rattle.action_xml.specs.declared.draft.FileDraft.{FileDraft}
-use Rattle.action_xml.specs.Origins.{origin_part, origin_element}
-use Rattle.action_xml.specs.Actions.{action}
-use Rattle.action_xml.specs.Documents.{InFile, file_child, in_file, file_step, no_actions, file_elements, in_root, root}
+use Rattle.action_drafts.specs.declared.draft.OriginPart.{OriginPart}
+use Rattle.action_drafts.specs.declared.draft.FileDraft.{FileDraft}
+use Rattle.action_drafts.specs.Origins.{origin_part, origin_element}
+use Rattle.action_drafts.specs.Actions.{action}
+use Rattle.action_drafts.specs.Documents.{InFile, file_child, in_file, file_step, no_actions, file_elements, in_root, root}
 use Rattle.action_file_laws.specs.TagForm.{tag_bytes}
 use Rattle.action_file_laws.specs.GapForm.{Gap, gaps_bytes, AreGaps}
 use Rattle.action_file_laws.specs.TextElementForm.{end_bytes, behind_name_bytes}

@@ -42,7 +42,7 @@ skip_found test (b ∷ bytes) = of (test b) refl (skip_found test bytes)
     of true e ih = (b ∷ ih.0, (e, ih.1), ap (λ r. b ∷ r) ih.2)
     of false e ih = ([], tt, refl)
 
-next_is : (c : ℕ) (bytes : List ℕ) → is_next c bytes ≡ true → bytes ≡ c ∷ drop 1 bytes
+pub next_is : (c : ℕ) (bytes : List ℕ) → is_next c bytes ≡ true → bytes ≡ c ∷ drop 1 bytes
 next_is c [] e = absurd cc
 next_is c (b ∷ bytes) e = ap (λ x. x ∷ bytes) (eq_of b c e)
 
@@ -82,7 +82,7 @@ byte_found c place (b ∷ bytes) rest e = of (b == c) refl e
     of true p e = ap (λ x. x ∷ bytes) (eq_of b c p) ∙ ap (λ r. c ∷ r) (ok_is bytes rest e)
     of false p e = absurd cc
 
-begins_found : (word bytes : List ℕ) → begins word bytes ≡ true → bytes ≡ word ++ drop (length word) bytes
+pub begins_found : (word bytes : List ℕ) → begins word bytes ≡ true → bytes ≡ word ++ drop (length word) bytes
 begins_found word bytes e =
     let is : word ≡ take (length word) bytes = (bytes_eq-Decides word (take (length word) bytes)).0 e in
     sym (take-append-drop (length word) bytes) ∙ ap (λ w. w ++ drop (length word) bytes) (sym is)

@@ -3,12 +3,12 @@ use Rattle.std.specs.Prelude.{◌≡◌, ℕ, true, false, List, [], ◌++◌, �
 use Rattle.pk_types.specs.ActionId.{id_fault_of}
 use Rattle.xml_pieces.specs.Texts.{value_of}
 use Rattle.xml_pieces.specs.Keyed.{has_key, set_key}
-use Rattle.action_xml.specs.declared.draft.Defaults.{Defaults}
-use Rattle.action_xml.specs.declared.draft.OriginPart.{OriginPart}
-use Rattle.action_xml.specs.declared.draft.OriginPart.TheVariants as part
-use Rattle.action_xml.specs.declared.draft.ActionDraft.{ActionDraft}
-use Rattle.action_xml.specs.Origins.{origin_of, with_origin}
-use Rattle.action_xml.specs.Actions.{lang_of, new_action}
+use Rattle.action_drafts.specs.declared.draft.Defaults.{Defaults}
+use Rattle.action_drafts.specs.declared.draft.OriginPart.{OriginPart}
+use Rattle.action_drafts.specs.declared.draft.OriginPart.TheVariants as part
+use Rattle.action_drafts.specs.declared.draft.ActionDraft.{ActionDraft}
+use Rattle.action_drafts.specs.Origins.{origin_of, with_origin}
+use Rattle.action_drafts.specs.Actions.{lang_of, new_action}
 use Rattle.action_file_laws.specs.TextForm.{IsWhite}
 use Rattle.action_file_laws.specs.TagForm.{attr_pair, AreAttrs, AreFineIds}
 use Rattle.action_file_laws.specs.GapForm.{Gap, gaps_bytes, AreGaps}

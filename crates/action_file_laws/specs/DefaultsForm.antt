@@ -4,8 +4,8 @@ use Rattle.pk_types.specs.Values.{implicit_of_word}
 use Rattle.pk_types.specs.declared.values.Implicit.{Implicit}
 use Rattle.pk_types.specs.declared.values.Category.{Category}
 use Rattle.pk_types.specs.declared.values.Category.TheVariants as category
-use Rattle.action_xml.specs.declared.draft.Defaults.{Defaults}
-use Rattle.action_xml.specs.Defaults.{trim, default_of, with_default, no_defaults}
+use Rattle.action_drafts.specs.declared.draft.Defaults.{Defaults}
+use Rattle.action_drafts.specs.Defaults.{trim, default_of, with_default, no_defaults}
 use Rattle.action_file_laws.specs.TagForm.{AreAttrs}
 use Rattle.action_file_laws.specs.TextForm.{IsWhite}
 use Rattle.action_file_laws.specs.GapForm.{Gap, AreGaps}

@@ -6,3 +6,5 @@ pub mod RowForm
 pub mod DefaultsForm
 pub mod ActionForm
 pub mod RootForm
+pub mod PrologForm
+pub mod DocumentForm

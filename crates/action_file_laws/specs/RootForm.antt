@@ -1,10 +1,10 @@
 -- The root element, apart from any reading.
 use Rattle.std.specs.Prelude.{◌≡◌, ℕ, List, [], ◌++◌, ◌∷◌, None, codes}
-use Rattle.action_xml.specs.declared.draft.OriginPart.{OriginPart}
-use Rattle.action_xml.specs.declared.draft.ActionDraft.{ActionDraft}
-use Rattle.action_xml.specs.declared.draft.FileDraft.{FileDraft}
-use Rattle.action_xml.specs.Origins.{origin_of, with_origin}
-use Rattle.action_xml.specs.Documents.{no_actions}
+use Rattle.action_drafts.specs.declared.draft.OriginPart.{OriginPart}
+use Rattle.action_drafts.specs.declared.draft.ActionDraft.{ActionDraft}
+use Rattle.action_drafts.specs.declared.draft.FileDraft.{FileDraft}
+use Rattle.action_drafts.specs.Origins.{origin_of, with_origin}
+use Rattle.action_drafts.specs.Documents.{no_actions}
 use Rattle.action_file_laws.specs.TextForm.{IsWhite}
 use Rattle.action_file_laws.specs.TagForm.{AreAttrs}
 use Rattle.action_file_laws.specs.GapForm.{Gap, gaps_bytes, AreGaps}

@@ -1,7 +1,7 @@
 // Laws about the element `action`.
 ghost use Rattle.std.specs.Prelude.{◌≡◌, ◌++◌, ℕ, List, Ok};
-ghost use Rattle.action_xml.specs.declared.draft.ActionDraft.{ActionDraft};
-ghost use Rattle.action_xml.specs.Actions.{InAction, action};
+ghost use Rattle.action_drafts.specs.declared.draft.ActionDraft.{ActionDraft};
+ghost use Rattle.action_drafts.specs.Actions.{InAction, action};
 ghost use Rattle.action_file_laws.specs.RowForm.{Parent};
 ghost use Rattle.action_file_laws.specs.ActionForm.{Part, SaysAction, action_bytes};
 

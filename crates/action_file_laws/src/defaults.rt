@@ -1,7 +1,7 @@
 // Laws about the element `defaults`.
 ghost use Rattle.std.specs.Prelude.{◌≡◌, ◌++◌, ℕ, List, Option, None, Ok};
-ghost use Rattle.action_xml.specs.declared.draft.Defaults.{Defaults};
-ghost use Rattle.action_xml.specs.Defaults.{defaults_element};
+ghost use Rattle.action_drafts.specs.declared.draft.Defaults.{Defaults};
+ghost use Rattle.action_drafts.specs.Defaults.{defaults_element};
 ghost use Rattle.action_file_laws.specs.RowForm.{Parent};
 ghost use Rattle.action_file_laws.specs.DefaultsForm.{Default, SaysDefaults, defaults_bytes};
 

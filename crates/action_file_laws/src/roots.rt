@@ -1,7 +1,7 @@
 // Laws about the root element.
 ghost use Rattle.std.specs.Prelude.{◌≡◌, ◌++◌, ◌∷◌, ℕ, List, Ok};
-ghost use Rattle.action_xml.specs.declared.draft.FileDraft.{FileDraft};
-ghost use Rattle.action_xml.specs.Documents.{InFile, root};
+ghost use Rattle.action_drafts.specs.declared.draft.FileDraft.{FileDraft};
+ghost use Rattle.action_drafts.specs.Documents.{InFile, root};
 ghost use Rattle.action_file_laws.specs.RowForm.{Parent};
 ghost use Rattle.action_file_laws.specs.RootForm.{FilePart, SaysRoot, root_bytes};
 

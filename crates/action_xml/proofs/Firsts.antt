@@ -5,7 +5,7 @@ use Rattle.xml_pieces.specs.declared.fault.Fault.{Fault}
 use Rattle.action_xml.specs.declared.fault.XmlFault.{XmlFault}
 use Rattle.xml_pieces.specs.declared.fault.XmlFaultKind.{XmlFaultKind}
 use Rattle.xml_pieces.specs.declared.fault.XmlFaultKind.TheVariants as kind
-use Rattle.action_xml.specs.declared.draft.FileDraft.{FileDraft}
+use Rattle.action_drafts.specs.declared.draft.FileDraft.{FileDraft}
 use Rattle.action_xml.specs.Files.{IsFirstFault, placed}
 
 by_kind : (k : XmlFaultKind) (at : ℕ) (due : Result (List Action) XmlFault) → due ≡ Err (record { kind = k; at = at }) → IsFirstFault k at due

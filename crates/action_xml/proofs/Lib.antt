@@ -1,2 +1,3 @@
-pub mod Trims
 pub mod Firsts
+pub mod Clean
+pub mod Relation

@@ -7,10 +7,10 @@ use Rattle.xml_pieces.specs.declared.fault.Fault.{Fault}
 use Rattle.action_xml.specs.declared.fault.XmlFault.{XmlFault}
 use Rattle.xml_pieces.specs.declared.fault.XmlFaultKind.{XmlFaultKind}
 use Rattle.xml_pieces.specs.declared.fault.XmlFaultKind.TheVariants as kind
-use Rattle.action_xml.specs.declared.draft.FileDraft.{FileDraft}
+use Rattle.action_drafts.specs.declared.draft.FileDraft.{FileDraft}
 use Rattle.action_xml.specs.declared.file.ActionFile.{ActionFile}
-use Rattle.action_xml.specs.Documents.{document}
-use Rattle.action_xml.specs.Finished.{all_finished}
+use Rattle.action_drafts.specs.Documents.{document}
+use Rattle.action_drafts.specs.Finished.{all_finished}
 
 -- the bytes without a byte order mark
 abbrev pub without_mark : List ℕ → List ℕ
@@ -39,6 +39,10 @@ actions_of bytes =
 abbrev pub IsFirstFault : XmlFaultKind → ℕ → Result (List Action) XmlFault → Type 0
 IsFirstFault kind.NoMemory at due = Unit {0}
 IsFirstFault fault at due = due ≡ Err (record { kind = fault; at = at })
+
+abbrev pub AreRead : List ℕ → Result (List Action) XmlFault → Type 0
+AreRead bytes (Ok actions) = actions_of bytes ≡ Ok actions
+AreRead bytes (Err fault) = IsFirstFault fault.kind fault.at (actions_of bytes)
 
 abbrev pub ReadAs : List ℕ → Result ActionFile XmlFault → Type 0
 ReadAs bytes (Ok file) = actions_of bytes ≡ Ok file.actions

@@ -1,7 +1,2 @@
-pub mod Elements
-pub mod Origins
-pub mod Defaults
-pub mod Actions
-pub mod Documents
-pub mod Finished
 pub mod Files
+pub mod ActionFiles

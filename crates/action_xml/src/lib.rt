@@ -2,14 +2,10 @@
 //! the actions of a file, or its first fault and the fault's place.
 #![tactic(auto)]
 
-mod action;
-mod defaults;
-mod document;
-mod draft;
 mod fault;
+#[cfg(test)]
+mod fault_tests;
 mod file;
-mod finished;
-mod origin;
 mod reading;
 #[cfg(test)]
 mod tests;

@@ -1,14 +1,16 @@
 // Reading an action file.
-ghost use Rattle.std.specs.Prelude.{◌≡◌, Result};
+ghost use Rattle.std.specs.Prelude.{◌≡◌, ℕ, List, Result, IfOk};
 ghost use Rattle.xml_pieces.specs.declared.fault.Fault.{Fault};
 ghost use Rattle.xml_pieces.specs.Reading.{Stops};
-ghost use Rattle.action_xml.specs.declared.draft.FileDraft.{FileDraft};
-ghost use Rattle.action_xml.specs.Files.{IsFirstFault, placed, without_mark, ReadAs};
+ghost use Rattle.action_drafts.specs.declared.draft.FileDraft.{FileDraft};
+ghost use Rattle.authority_model.specs.declared.policy.Action.{Action};
+ghost use Rattle.action_xml.specs.Files.{IsFirstFault, placed, without_mark, AreRead, ReadAs};
+ghost use Rattle.action_xml.specs.ActionFiles.{IsActionFile, AnswersWith};
 
-use crate::document::document;
 use crate::fault::XmlFault;
 use crate::file::ActionFile;
-use crate::finished::all_finished;
+use action_drafts::{all_finished, document};
+use authority_model::ActionList;
 use pk_types::bad_byte;
 use std::alloc::Global;
 use xml_pieces::{Stop, XmlFaultKind, behind};
@@ -45,18 +47,9 @@ fn placed(why: Stop, size: usize) -> XmlFault
     }
 }
 
-/// The actions of an action file, or its first fault.
-///
-/// A file is UTF-8 with or without a byte order mark, and its root `policyconfig` holds actions
-/// (polkit(8), "Declaring Actions"). CR LF and CR are read as LF. Texts are taken as they stand,
-/// with the five named references and references by number; there are no CDATA sections, no
-/// declarations in DOCTYPE and no processing instructions inside the root.
-///
-/// The first fault is told: a file over 4,194,304 bytes (`TooLong` at 0), then a byte that is 0 or
-/// not valid UTF-8, and then the fault that the shortest prefix of the file decides, at the place
-/// that [`XmlFault`] names.
-pub fn read(alloc: Global, bytes: &[u8]) -> Result<ActionFile, XmlFault>
-    ensures read { ReadAs bytes.now result }
+/// The actions of these bytes, or their first fault.
+fn actions(alloc: Global, bytes: &[u8]) -> Result<ActionList, XmlFault>
+    ensures read { AreRead bytes.now result }
 {
     if bytes.len() > MAX_FILE {
         return Err(XmlFault {
@@ -75,5 +68,31 @@ pub fn read(alloc: Global, bytes: &[u8]) -> Result<ActionFile, XmlFault>
         Err(stop) => return Err(placed(stop, bytes.len())),
     };
     let actions = all_finished(alloc, file)?;
-    Ok(ActionFile { actions })
+    Ok(actions)
+}
+
+/// The actions of an action file, or its first fault.
+///
+/// A file is UTF-8 with or without a byte order mark, and its root `policyconfig` holds actions
+/// (polkit(8), "Declaring Actions"). CR LF and CR are read as LF. Texts are taken as they stand,
+/// with the five named references and references by number; there are no CDATA sections, no
+/// declarations in DOCTYPE and no processing instructions inside the root.
+///
+/// `Ok` comes for an action file with the actions that it says, and for nothing else. Otherwise
+/// the first fault is told: a file over 4,194,304 bytes (`TooLong` at 0), then a byte that is 0 or
+/// not valid UTF-8, and then the fault that the shortest prefix of the file decides, at the place
+/// that [`XmlFault`] names.
+pub fn read(alloc: Global, bytes: &[u8]) -> Result<ActionFile, XmlFault>
+    ensures read { ReadAs bytes.now result }
+
+    // What is read is an action file that says these actions.
+    ensures is_file { IfOk result (λ file. IsActionFile bytes.now file.actions) }
+
+    // An action file is read as the actions that it says, however it is spelled.
+    ensures again { (actions : List Action) → IsActionFile bytes.now actions → AnswersWith actions result }
+{
+    match actions(alloc, bytes) {
+        Ok(actions) => Ok(ActionFile { actions }),
+        Err(fault) => Err(fault),
+    }
 }
