@@ -30,15 +30,15 @@ pub const PEERS: &str = "peer 1 1000\npeer 2 0\npeer 3 1001\npeer 4 1000\n";
 const GRANT: &str =
     "at 50\nregister 4 1 session:s1 /agent\ncheck 1 1 process:50:7 a.self ask\nrespond 2 1 1-00000000000000000000000000000000 user:1000\nreturn 4 2\n";
 
-/// What that is answered.
+/// The answers to these lines.
 const GRANTED: &str =
     "4 1 done\n4 begin 2 1-00000000000000000000000000000000 a.self user:1000\n2 1 done\n1 1 yes challenge grant=tmpauthz0\n1 changed\n2 changed\n3 changed\n4 changed\n";
 
-/// A check of the first user for which root responded, and no return yet.
+/// A check of the first user for which root responded, with no return yet.
 const ANSWERED: &str =
     "register 4 1 session:s1 /agent\ncheck 1 1 process:50:7 a.self ask\nrespond 2 1 1-00000000000000000000000000000000 user:1000\n";
 
-/// What that is answered.
+/// The answers to these lines.
 const BEGUN: &str =
     "4 1 done\n4 begin 2 1-00000000000000000000000000000000 a.self user:1000\n2 1 done\n";
 
@@ -400,7 +400,7 @@ fn agents_are_asked(rt: HostRuntime) -> Result<(), Fail> {
     Ok(())
 }
 
-/// 65 checks of one connection, and what they are answered: 64 may wait for their agent.
+/// 65 checks of one connection, and their answers: 64 may wait for their agent.
 #[test]
 fn checks_that_wait_are_limited(rt: HostRuntime) -> Result<(), Fail> {
     let alloc = rt.alloc();

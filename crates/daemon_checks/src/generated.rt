@@ -1,4 +1,4 @@
-// Runs of generated checks, and the lines that they come to.
+// Runs of generated checks, and the lines of their totals.
 use crate::runs::{IoPlan, NO_FAULTS, run};
 use std::test::Fail;
 

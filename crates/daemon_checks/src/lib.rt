@@ -7,6 +7,8 @@ mod agents;
 #[cfg(test)]
 mod faults;
 #[cfg(test)]
+mod full;
+#[cfg(test)]
 mod generated;
 #[cfg(test)]
 mod rows;

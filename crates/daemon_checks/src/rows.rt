@@ -67,7 +67,7 @@ const ROWS: [Row; 26] = [
         "Done",
         0,
     ),
-    // What comes behind the first event is no part of the load that it began with.
+    // What comes after the first event is not part of the load before it.
     (
         "peer 1 7\nprocess 5 5 7 -\naction a yes yes yes\ncheck 1 1 process:5:5 a\n",
         "1 1 error Failed unknown-action\n",
@@ -154,13 +154,18 @@ fn long_lines_are_refused(rt: HostRuntime) -> Result<(), Fail> {
 
 #[test]
 fn other_words_are_refused(rt: HostRuntime) -> Result<(), Fail> {
-    let commands: [&[&str]; 15] = [
+    let commands: [&[&str]; 20] = [
         &[],
         &[""],
         &["Replay"],
         &["replay", "--root"],
         &["replay", "replay"],
-        &["replay", "--entries", "3"],
+        &["replay", "--entries"],
+        &["replay", "--entries", "0"],
+        &["replay", "--entries", "03"],
+        &["replay", "--entries", "1048577"],
+        &["replay", "--entries=3"],
+        &["replay", "--entries", "3", "--entries", "3"],
         &["--help"],
         &["load"],
         &["load", ""],

@@ -1,5 +1,5 @@
-// Scenarios of rules and administrators, and what a replay answers. What is wanted is said by
-// pklocalauthority(8).
+// Scenarios of rules and administrators, and what a replay answers. The expected answers are those
+// of pklocalauthority(8).
 use crate::agents::{PEERS, Row, TWO_USERS, joined};
 use crate::runs::{NO_FAULTS, run};
 use std::test::Fail;

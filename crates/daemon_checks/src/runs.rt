@@ -70,7 +70,7 @@ pub fn run<R: Threads + Wait + Sync>(
         rt,
         alloc,
         words.as_slice(),
-        &mut ListTree::new(),
+        &mut ListTree::empty(alloc),
         &mut ListStation::new(),
         &mut source,
         &mut sink,

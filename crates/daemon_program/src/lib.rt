@@ -1,6 +1,6 @@
 //! The program `polkitd` over its words and its standard streams.
 //!
-//! What its command does is proved of the top call of `polkit_daemon`; this edge passes the words
+//! What its command does is proved of the top call of `polkit_daemon`; this crate passes the words
 //! and the streams on, and tells how it ended.
 #![tactic(auto)]
 
@@ -13,18 +13,19 @@ use std::sync::Wait;
 use std::thread::Threads;
 use std::{env, io};
 
-const HELP: &str = "usage: polkitd replay
+const HELP: &str = "usage: polkitd replay [--entries K]
        polkitd load N
 
 replay  runs the scenario on standard input, and writes its answers to standard output
+        --entries K  the journal holds at most K entries, 1 to 1048576
 load N  runs N generated checks, 1 to 100000, and writes what they come to to standard output
 
 Options, each alone:
   --help     shows this text
   --version  shows the version
 
-Exit status: 0 done, 1 usage, 3 read fault, 4 write fault, 6 a line that is not in the grammar,
-70 out of memory. Any but 0 is told by one line on standard error.
+Exit status: 0 done, 1 usage, 3 read fault, 4 write fault, 5 the journal is full, 6 a line that is not
+in the grammar, 70 out of memory. Any but 0 is told by one line on standard error.
 ";
 
 const VERSION: &str = "polkitd 0.105.0\n";
@@ -37,7 +38,7 @@ fn unread(fault: io::Error) -> Status {
     }
 }
 
-/// How a word that is no text ends the program.
+/// How a word that is not a text ends the program.
 fn no_text(fault: TextFault) -> Status {
     match fault {
         TextFault::TooLong { .. } | TextFault::BadByte { .. } => Status::Usage,
@@ -45,7 +46,7 @@ fn no_text(fault: TextFault) -> Status {
     }
 }
 
-/// The words behind the program's name, or how their want ends the program.
+/// The words after the program's name, or how the program ends without them.
 fn words<R: Env + AllocGlobal>(rt: &R) -> Result<TextList, Status> {
     let alloc = rt.alloc();
     let mut words = List::new(alloc);
@@ -80,7 +81,7 @@ where
             Err(_) => Status::WriteFault,
         };
     }
-    let mut tree = ListTree::new();
+    let mut tree = ListTree::empty(rt.alloc());
     let mut station = ListStation::new();
     let mut input = ReadSource::new(rt.reader());
     let mut output = WriteSink::new(io::writer(rt));

@@ -1,4 +1,4 @@
--- What a run has behind one more entry.
+-- What a run has after one more entry.
 use Rattle.std.proofs.Common.{◌≡◌, ℕ, ◌+◌, subst, List, [], ◌∷◌, ◌++◌, Some, refl, ap, sym, ◌∙◌, length, arith, length-append}
 use Rattle.std.specs.Prelude.{slice_get, unwrap_or}
 use Rattle.std.proofs.lemmas.Option.{slice_get_read}
@@ -6,15 +6,26 @@ use Rattle.std.proofs.Math.Seq.{get_or-append_seam}
 use Rattle.authority_model.specs.declared.journal.Entry.{Entry}
 use Rattle.authority_model.specs.declared.journal.History.{History}
 use Rattle.authority_model.specs.declared.journal.Item.{Item}
+use Rattle.authority_core.specs.declared.authority.LoadStepRefused.{LoadStepRefused}
+use Rattle.authority_core.specs.declared.authority.LoadStepRefused.TheVariants as load_refused
+use Rattle.authority_core.specs.declared.authority.StepRefused.{StepRefused}
+use Rattle.authority_core.specs.declared.authority.StepRefused.TheVariants as step_refused
+use Rattle.authority_core.specs.Refusals.{IsFullAt, IsLoadRefused, IsStepRefused}
+use Rattle.authority_model.specs.declared.event.Event.{Event}
+use Rattle.authority_model.specs.declared.load.Loaded.{Loaded}
+use Rattle.authority_model.specs.declared.journal.Limits.{Limits}
+use Rattle.authority_model.specs.Entering.{counted_bytes, is_full}
 use Rattle.authority_model.specs.Given.{Given, next, load_given}
 use Rattle.authority_model.specs.Items.{items_of}
 use Rattle.generated_run.specs.declared.run.Run.{Run}
 use Rattle.generated_run.specs.Run.{entered, each_entered, connects, registers, root_connects, set_up, checked, generated}
 use Rattle.generated_run.specs.Setup.{setup}
+use Rattle.generated_run.specs.declared.refused.RunRefused.TheVariants as refused
+use Rattle.generated_run.specs.Stops.{StopsIn}
 use Rattle.generated_run.specs.Tallies.{Tallies, Has}
-use Rattle.generated_run.proofs.Steps.{each_entered_none, each_entered_more, set_up_is, generated_none, generated_more}
+use Rattle.generated_run.proofs.Steps.{entered_is, each_entered_none, each_entered_more, set_up_is, generated_none, generated_more}
 
--- the entry behind others
+-- the entry after others
 at_end : (old : List Entry) (e : Entry) → slice_get (old ++ e ∷ []) (length old) ≡ Some e
 at_end old e = slice_get_read (old ++ e ∷ []) (length (old ++ e ∷ [])) (length old) e refl (omega (arith, length-append old (e ∷ []))) (sym (get_or-append_seam old e [] e))
 
@@ -34,10 +45,10 @@ newest_is past old new g found place items grows at is =
     )
 
 -- a run has the next item besides
-pub has_next : (past : List Item) (old new : Run) (g : Given) → Has past old → items_of new.authority.history ≡ next (items_of old.authority.history) g ∷ items_of old.authority.history
+pub has_next : (past : List Item) (old new : Run) (g : Given) → Has past old → new.authority.limits ≡ old.authority.limits → items_of new.authority.history ≡ next (items_of old.authority.history) g ∷ items_of old.authority.history
     → Tallies (next past g ∷ past) new.tally → Has (entered past g) new
 unfolding entered
-has_next past old new g has grows tally = record { items = grows ∙ ap (λ p. next p g ∷ p) has.items; tally = tally }
+has_next past old new g has same grows tally = record { items = grows ∙ ap (λ p. next p g ∷ p) has.items; limits = same ∙ has.limits; tally = tally }
 
 -- no event was entered yet
 pub none_entered : (given : ℕ → Given) (past : List Item) (run : Run) → Has past run → Has (each_entered given 0 past) run
@@ -58,3 +69,23 @@ none_generated run has = subst (λ p. Has p run) (sym generated_none) has
 -- one more check was generated
 pub one_more_generated : (k : ℕ) (run : Run) → Has (checked k (generated k)) run → Has (generated (k + 1)) run
 one_more_generated k run has = subst (λ p. Has p run) (sym (generated_more k)) has
+
+-- the journal was full before this
+pub full_before : (past : List Item) (run : Run) (g : Given) (entries bytes : ℕ) → Has past run → IsFullAt run.authority entries bytes → StopsIn (entered past g) (refused.JournalFull entries bytes)
+full_before past run g entries bytes has full = record {
+  past = past;
+  due = record { item = next past g; more = []; whole = entered_is past g };
+  full = ap (λ (l : Limits). is_full l past) (sym has.limits) ∙ ap (is_full run.authority.limits) (sym has.items) ∙ full.full;
+  entries_are = full.entries_are ∙ ap length has.items;
+  bytes_are = full.bytes_are ∙ ap counted_bytes has.items;
+}
+
+-- the journal refused an event
+pub step_full : (past : List Item) (run : Run) (g : Given) (event back : Event) (r : StepRefused) (entries bytes : ℕ) → r ≡ step_refused.JournalFull entries bytes back → Has past run
+    → IsStepRefused run.authority event r → StopsIn (entered past g) (refused.JournalFull entries bytes)
+step_full past run g event back r entries bytes is has full = full_before past run g entries bytes has (subst (IsStepRefused run.authority event) is full).0
+
+-- the journal refused a load
+pub load_full : (past : List Item) (run : Run) (g : Given) (loaded back : Loaded) (r : LoadStepRefused) (entries bytes : ℕ) → r ≡ load_refused.JournalFull entries bytes back → Has past run
+    → IsLoadRefused run.authority loaded r → StopsIn (entered past g) (refused.JournalFull entries bytes)
+load_full past run g loaded back r entries bytes is has full = full_before past run g entries bytes has (subst (IsLoadRefused run.authority loaded) is full).0

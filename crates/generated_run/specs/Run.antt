@@ -28,11 +28,11 @@ unfoldable pub each_entered : (ℕ → Given) → ℕ → List Item → List Ite
 each_entered given zero past = past
 each_entered given (suc n) past = entered (each_entered given n past) (given n)
 
--- the i-th user connects, as caller i + 1
+-- the i-th user connects, as connection i + 1
 abbrev pub connects : ℕ → Given
 connects i = event_given (i + 1) 0 0 (Connect (1000 + i))
 
--- root connects, as caller 9
+-- root connects, as connection 9
 abbrev pub root_connects : Given
 root_connects = event_given 9 0 0 (Connect 0)
 
@@ -74,7 +74,7 @@ abbrev pub asked : ℕ → Message → Option Asked
 asked serial (Begin path action text icon details cookie identities) = option_map (λ uid. record { serial = serial; cookie = cookie; uid = uid }) (first_user identities)
 asked serial _ = None
 
--- what outputs first ask of a caller, of which the next to it has this serial
+-- what outputs first ask of a connection, the next to it having this serial
 abbrev pub asked_in : ℕ → ℕ → List Output → Option Asked
 asked_in caller serial [] = None
 asked_in caller serial (o ∷ outputs) = if o.to == caller then or_else (asked serial o.message) (asked_in caller (serial + 1) outputs) else asked_in caller serial outputs

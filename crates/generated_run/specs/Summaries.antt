@@ -1,4 +1,4 @@
--- What a run of checks comes to.
+-- The totals of a run of checks.
 use Rattle.std.specs.Prelude.{ℕ, ◌+◌, Bool, false, not, ◌&&◌, List, [], ◌∷◌, ◌++◌, codes, count_by, decimal, is_some, length}
 use Rattle.authority_model.specs.declared.journal.Item.{Item}
 use Rattle.authority_model.specs.declared.message.Answer.TheVariants as answer
@@ -37,7 +37,7 @@ abbrev pub told : Mark → List Item → ℕ
 told mark [] = 0
 told mark (i ∷ past) = told mark past + told_in mark i.entry.outputs
 
--- the counts of verdicts that are yes, no and challenges, of those with a grant, and of items
+-- the counts of verdicts that are yes, no and challenges, of those with a temporary authorization, and of items
 abbrev pub summary_of : List Item → Summary
 summary_of past = record {
   yes = told Mark.Yes past;

@@ -1,6 +1,7 @@
 -- What the code keeps beside the journal.
 use Rattle.std.specs.Prelude.{◌≡◌, List}
 use Rattle.authority_model.specs.declared.journal.Item.{Item}
+use Rattle.authority_model.specs.Entering.{greatest_limits}
 use Rattle.authority_model.specs.Items.{items_of}
 use Rattle.journal_state.specs.Counted.{Counts}
 use Rattle.generated_run.specs.declared.run.Run.{Run}
@@ -15,4 +16,5 @@ pub record Tallies (past : List Item) (tally : Tally) : Type 0 where
 -- a run has these items
 pub record Has (past : List Item) (run : Run) : Type 0 where
   pub items : items_of run.authority.history ≡ past
+  pub limits : run.authority.limits ≡ greatest_limits
   pub tally : Tallies past run.tally

@@ -63,7 +63,7 @@ fn after(serial: u32) -> Result<u32, NoMemory>
     serial.checked_add(1).ok_or(NoMemory)
 }
 
-/// What outputs first ask of a caller, of which the next to it has this serial.
+/// What outputs first ask of a connection, where the next one to it has this serial.
 pub fn asked_in(caller: u32, serial: u32, outputs: &[Output]) -> Result<Option<Asked>, NoMemory>
     ensures asked { IfOk result (λ found. found ≡ asked_in caller serial outputs.now) }
 {

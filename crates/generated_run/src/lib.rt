@@ -1,4 +1,4 @@
-//! A run of many checks that is made up from their number alone, and what it comes to.
+//! A run of many checks that is generated from a count alone, and its totals.
 //!
 //! The items of the run are a definition over plain lists (`specs/Run.antt`): a setup of eight
 //! users with an agent each, and then the checks, each with its dialogue. The run is proved to have
@@ -7,11 +7,13 @@
 
 mod asked;
 mod events;
+mod refused;
 mod run;
 mod setup;
 mod summary;
 mod tally;
 mod texts;
 
+pub use refused::RunRefused;
 pub use run::generate;
 pub use summary::{Summary, summary_line};

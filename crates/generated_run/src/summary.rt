@@ -1,4 +1,4 @@
-// What a run comes to.
+// The totals of a run.
 ghost use Rattle.std.specs.Prelude.{◌≡◌, ◌+◌, ◌∷◌, [], IfOk, OnOk, List};
 ghost use Rattle.authority_model.specs.declared.journal.Item.{Item};
 ghost use Rattle.generated_run.specs.Summaries.{has_mark, marks, tells, told_in, summary_of, line_of};
@@ -7,7 +7,7 @@ use authority_model::{Answer, Entry, Message, Output, Verdict};
 use pk_types::{ByteList, List, NoMemory};
 use std::alloc::Global;
 
-/// What a run comes to.
+/// The totals of a run.
 #[derive(Clone, Copy, Debug, PartialEq, Eq)]
 pub struct Summary {
     /// The verdicts that are yes.
@@ -16,19 +16,19 @@ pub struct Summary {
     pub no: u64,
     /// The verdicts that are challenges.
     pub challenges: u64,
-    /// The verdicts for which a grant was made.
+    /// The verdicts for which a temporary authorization was made.
     pub grants: u64,
     /// The entries of the journal.
     pub entries: u64,
 }
 
-/// What verdicts are counted by.
+/// The mark by which verdicts are counted.
 #[derive(Clone, Copy)]
 pub enum Mark {
     Yes,
     No,
     Challenge,
-    /// A grant was made for the verdict.
+    /// A temporary authorization was made for the verdict.
     Grant,
 }
 
@@ -81,7 +81,7 @@ fn sum(a: u64, b: usize) -> Result<u64, NoMemory>
 }
 
 impl Summary {
-    /// The summary of no entry.
+    /// The summary before the first entry.
     pub const fn start() -> Summary
         ensures empty { result ≡ summary_of [] }
     {

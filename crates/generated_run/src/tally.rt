@@ -11,7 +11,7 @@ use journal_state::SentCounts;
 use pk_types::NoMemory;
 use std::alloc::Global;
 
-/// How many outputs each caller was sent, and the summary so far.
+/// How many outputs each connection was sent, and the summary so far.
 #[derive(Drop)]
 pub struct Tally {
     sent: SentCounts,
@@ -19,7 +19,7 @@ pub struct Tally {
 }
 
 impl Tally {
-    /// The tally of no entry.
+    /// The tally before the first entry.
     pub fn start(alloc: Global) -> Tally
         ensures empty { Tallies [] result }
     {
@@ -29,8 +29,8 @@ impl Tally {
         }
     }
 
-    /// Counts one more entry, and answers what it asks of its caller. After a refusal the tally is
-    /// of no use.
+    /// Counts one more entry, and answers what it asks of its caller. After a refusal the tally
+    /// must not be used.
     pub fn add(&mut self, entry: &Entry) -> Result<Option<Asked>, NoMemory>
         ensures added { (past : List Item) (i : Item) → Tallies past self.old → i.entry ≡ entry.now → OnOk result (Tallies (i ∷ past) self.new) }
         ensures asked { (past : List Item) (i : Item) → Tallies past self.old → i.entry ≡ entry.now → IfOk result (λ asked. asked ≡ asked_last (i ∷ past)) }

@@ -1,10 +1,10 @@
-// Texts of bytes that are one.
+// Texts of bytes that are a valid text.
 ghost use Rattle.std.specs.Prelude.{◌≡◌, IfOk};
 
 use pk_types::{ActionId, NoMemory, Text};
 use std::alloc::Global;
 
-/// The text of bytes that are one, so that memory alone is refused.
+/// The text of bytes that are a valid text, so only memory can be refused.
 pub fn text(alloc: Global, bytes: &[u8]) -> Result<Text, NoMemory>
     ensures text { IfOk result (λ text. text ≡ bytes.now) }
 {
@@ -14,7 +14,7 @@ pub fn text(alloc: Global, bytes: &[u8]) -> Result<Text, NoMemory>
     }
 }
 
-/// The action id of bytes that are one, so that memory alone is refused.
+/// The action id of bytes that are a valid action id, so only memory can be refused.
 pub fn action_id(alloc: Global, bytes: &[u8]) -> Result<ActionId, NoMemory>
     ensures id { IfOk result (λ id. id ≡ bytes.now) }
 {

@@ -1,9 +1,11 @@
--- How the counts of faults stand behind one call after another.
+-- The counts of faults after one call and then another.
 use Rattle.std.proofs.Common.{◌≡◌, ℕ, List, Option, Result, Ok, Err, refl, sym, subst, ◌∙◌}
 use Rattle.std.specs.Result.{IsErrAnd}
 use Rattle.pk_outside.specs.Causes.{FailsLast}
 use Rattle.scenario_text.specs.declared.fault.LineKind.{LineKind}
 use Rattle.scenario_text.specs.declared.fault.LineKind.TheVariants as kind
+use Rattle.scenario_run.specs.declared.scenario.LineStop.{LineStop}
+use Rattle.scenario_run.specs.declared.scenario.LineStop.TheVariants as stop
 use Rattle.polkit_daemon.specs.declared.replaying.Stopped.{Stopped}
 use Rattle.polkit_daemon.specs.declared.replaying.Stopped.TheVariants as stopped
 use Rattle.polkit_daemon.specs.declared.status.Status.{Status}
@@ -12,7 +14,7 @@ use Rattle.polkit_daemon.specs.declared.written.WriteRefused.{WriteRefused}
 use Rattle.polkit_daemon.specs.declared.written.WriteRefused.TheVariants as refused
 use Rattle.polkit_daemon.specs.Faults.{InputFaults, OutputFaults, LineWrites, AnswerWrites}
 use Rattle.polkit_daemon.specs.Generate.{Generates}
-use Rattle.polkit_daemon.specs.Lines.{stop_of, status_of}
+use Rattle.polkit_daemon.specs.Lines.{stop_at, stop_of, status_of}
 
 -- the last call failed, and none before it, from an earlier moment on that had the same count
 pub fails_later : {S : Type 0} (content : S → Option (List ℕ)) (faults : S → ℕ) (first before now : S) → faults before ≡ faults first
@@ -24,14 +26,14 @@ fails_later content faults first before now quiet failed = record {
   same = failed.same;
 }
 
--- answer lines behind others that were written
+-- answer lines after others that were written
 pub answers_later : {S : Type 0} (held : S → Option (List ℕ)) (faults : S → ℕ) (first before now : S) (result : Result (Unit {0}) WriteRefused)
     → faults before ≡ faults first → AnswerWrites held faults before now result → AnswerWrites held faults first now result
 answers_later held faults first before now (Ok done) quiet writes = writes ∙ quiet
 answers_later held faults first before now (Err refused.Failed) quiet writes = fails_later held faults first before now quiet writes
 answers_later held faults first before now (Err refused.NoMemory) quiet writes = writes ∙ quiet
 
--- answer lines behind others that were written, the last of which was refused
+-- answer lines after others that were written, the last of which was refused
 pub answers_refused : {S : Type 0} (held : S → Option (List ℕ)) (faults : S → ℕ) (first before now : S) (result : Result (Unit {0}) WriteRefused) (e : WriteRefused)
     → IsErrAnd result (λ (y : WriteRefused). y ≡ e) → faults before ≡ faults first → AnswerWrites held faults before now (Err e) → AnswerWrites held faults first now result
 answers_refused held faults first before now (Ok done) e is quiet writes = absurd is
@@ -39,14 +41,20 @@ answers_refused held faults first before now (Err y) e is quiet writes =
     subst (λ (r : WriteRefused). AnswerWrites held faults first now (Err r)) (sym is) (answers_later held faults first before now (Err e) quiet writes)
 
 -- a line with a fault writes nothing
-pub fault_writes : {S : Type 0} (held : S → Option (List ℕ)) (faults : S → ℕ) (output : S) (fault : LineKind) → LineWrites held faults output output (Err (stop_of fault))
+fault_writes : {S : Type 0} (held : S → Option (List ℕ)) (faults : S → ℕ) (output : S) (fault : LineKind) → LineWrites held faults output output (Err (stop_at fault))
 fault_writes held faults output kind.NoMemory = refl
 fault_writes held faults output other = refl
+
+-- a line that stopped the run before its answers writes nothing
+pub stop_writes : {S : Type 0} (held : S → Option (List ℕ)) (faults : S → ℕ) (output : S) (st : LineStop) → LineWrites held faults output output (Err (stop_of st))
+stop_writes held faults output (stop.Fault fault) = fault_writes held faults output fault.kind
+stop_writes held faults output (stop.JournalFull entries bytes) = refl
 
 -- a run that a line stopped had no read fault
 pub stopped_reads : {S : Type 0} (left : S → Option (List ℕ)) (faults : S → ℕ) (before now : S) (e : Stopped) (n : ℕ) → faults now ≡ faults before
     → InputFaults left faults before now (status_of e n)
 stopped_reads left faults before now (stopped.Fault kind) n quiet = quiet
+stopped_reads left faults before now (stopped.JournalFull entries bytes) n quiet = quiet
 stopped_reads left faults before now stopped.WriteFault n quiet = quiet
 stopped_reads left faults before now stopped.NoMemory n quiet = quiet
 
@@ -54,6 +62,7 @@ stopped_reads left faults before now stopped.NoMemory n quiet = quiet
 pub stopped_writes : {S : Type 0} (held : S → Option (List ℕ)) (faults : S → ℕ) (first before now : S) (e : Stopped) (n : ℕ) → faults before ≡ faults first
     → LineWrites held faults before now (Err e) → OutputFaults held faults first now (status_of e n)
 stopped_writes held faults first before now (stopped.Fault kind) n quiet writes = writes ∙ quiet
+stopped_writes held faults first before now (stopped.JournalFull entries bytes) n quiet writes = writes ∙ quiet
 stopped_writes held faults first before now stopped.WriteFault n quiet writes = fails_later held faults first before now quiet writes
 stopped_writes held faults first before now stopped.NoMemory n quiet writes = writes ∙ quiet
 

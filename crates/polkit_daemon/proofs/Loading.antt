@@ -17,3 +17,11 @@ checks_of _ = 0
 -- a command has one number of checks
 pub same_checks : (read : Option Command) (a b : ℕ) → read ≡ Some (command.Load a) → read ≡ Some (command.Load b) → a ≡ b
 same_checks read a b is_a is_b = ap checks_of (sym is_a ∙ is_b)
+
+abbrev entries_of : Option Command → ℕ
+entries_of (Some (command.Replay entries)) = entries
+entries_of _ = 0
+
+-- a command has one limit of entries
+pub same_entries : (read : Option Command) (a b : ℕ) → read ≡ Some (command.Replay a) → read ≡ Some (command.Replay b) → a ≡ b
+same_entries read a b is_a is_b = ap entries_of (sym is_a ∙ is_b)

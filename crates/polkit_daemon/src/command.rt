@@ -1,7 +1,8 @@
 // The command line of the daemon.
 ghost use Rattle.std.specs.Prelude.{◌≡◌, ◌≤◌, IfSome};
-ghost use Rattle.polkit_daemon.specs.Commands.{checks_in, command_of};
+ghost use Rattle.polkit_daemon.specs.Commands.{command_of, entries_in, load_in, positive_up_to, replay_in, IsInRange};
 
+use authority_model::MAX_ENTRIES;
 use pk_types::{Text, number_up_to};
 
 /// The greatest number of checks of a generated run.
@@ -10,37 +11,73 @@ const MAX_CHECKS: u64 = 100_000;
 /// A command of the daemon.
 #[derive(Clone, Copy, Debug, PartialEq, Eq)]
 pub enum Command {
-    /// `replay`: runs the scenario on the input.
-    Replay,
-    /// `load N`: runs so many generated checks, from 1 to 100,000, and writes what they come to.
+    /// `replay [--entries K]`: runs the scenario on the input, with a journal of at most so many
+    /// entries, from 1 to 1,048,576, which it is without the option.
+    Replay { entries: u64 },
+    /// `load N`: runs so many generated checks, from 1 to 100,000, and writes their totals.
     Load { checks: u32 },
 }
 
-/// A number of checks, from 1 to 100,000.
-fn checks_in(word: &[u8]) -> Option<u32>
-    ensures checks { result ≡ checks_in word.now }
+/// A number from 1 to the greatest one.
+fn positive(word: &[u8], greatest: u64) -> Option<u64>
+    ensures number { result ≡ positive_up_to greatest word.now }
 {
-    let checks = number_up_to(word, MAX_CHECKS)?;
-    if checks < 1 {
+    let number = number_up_to(word, greatest)?;
+    if number < 1 {
         return None;
     }
-    Some(checks as u32)
+    Some(number)
+}
+
+/// The limit of entries that the options say, or the greatest one.
+fn entries_in(words: &[Text]) -> Option<u64>
+    ensures entries { result ≡ entries_in words.now }
+{
+    match words {
+        [] => Some(MAX_ENTRIES),
+        [option, number] if option.bytes() == b"--entries".as_slice() => {
+            positive(number.bytes(), MAX_ENTRIES)
+        }
+        _ => None,
+    }
+}
+
+/// The replay that the words after `replay` name.
+fn replay_in(words: &[Text]) -> Option<Command>
+    ensures command { result ≡ replay_in words.now }
+{
+    let entries = entries_in(words)?;
+    Some(Command::Replay { entries })
+}
+
+/// The generated run that the words after `load` name.
+fn load_in(words: &[Text]) -> Option<Command>
+    ensures command { result ≡ load_in words.now }
+{
+    match words {
+        [number] => {
+            let checks = positive(number.bytes(), MAX_CHECKS)?;
+            Some(Command::Load {
+                checks: checks as u32,
+            })
+        }
+        _ => None,
+    }
 }
 
 impl Command {
     /// The command that the words name, and `None` exactly where they are not in the grammar.
     pub fn read(words: &[Text]) -> Option<Command>
         ensures command { result ≡ command_of words.now }
+        ensures range { IfSome result IsInRange }
     {
-        match words {
-            [word] if word.bytes() == b"replay".as_slice() => Some(Command::Replay),
-            [word, number] if word.bytes() == b"load".as_slice() => match checks_in(
-                number.bytes(),
-            ) {
-                Some(checks) => Some(Command::Load { checks }),
-                None => None,
-            },
-            _ => None,
+        let (word, rest) = words.split_first()?;
+        if word.bytes() == b"replay".as_slice() {
+            return replay_in(rest);
         }
+        if word.bytes() == b"load".as_slice() {
+            return load_in(rest);
+        }
+        None
     }
 }

@@ -1,34 +1,38 @@
 // The command that runs generated checks.
-ghost use Rattle.std.specs.Prelude.{◌≡◌, ◌≤◌, IfOk, OnOk};
+ghost use Rattle.std.specs.Prelude.{◌≡◌, ◌≤◌, IfErr, IfOk, OnOk};
 ghost use Rattle.authority_model.specs.Legal.{Legal};
 ghost use Rattle.authority_model.specs.Licensed.{AllLicensed};
 ghost use Rattle.generated_run.specs.Run.{generated};
+ghost use Rattle.generated_run.specs.Stops.{StopsIn};
 ghost use Rattle.polkit_daemon.specs.Faults.{OutputFaults};
 ghost use Rattle.polkit_daemon.specs.Generate.{Generates, generated_line};
 
 use crate::status::Status;
-use generated_run::{generate, summary_line};
+use generated_run::{RunRefused, generate, summary_line};
 use pk_outside::{Failed, Sink, write_all};
-use pk_types::{ByteList, NoMemory};
+use pk_types::ByteList;
 use std::alloc::Global;
 
 /// The line of a generated run of so many checks.
-fn generated_line(alloc: Global, checks: u32) -> Result<ByteList, NoMemory>
+fn generated_line(alloc: Global, checks: u32) -> Result<ByteList, RunRefused>
     requires checks { checks ≤ 100000 }
     ensures line { IfOk result (λ line. line ≡ generated_line checks) }
     ensures legal { OnOk result (Legal (generated checks)) }
     ensures licensed { OnOk result (AllLicensed (generated checks)) }
+    ensures stop { IfErr result (StopsIn (generated checks)) }
 {
     let summary = generate(alloc, checks)?;
-    summary_line(alloc, &summary)
+    Ok(summary_line(alloc, &summary)?)
 }
 
 /// Runs so many generated checks, from 1 to 100,000, each with its dialogue, and writes one line that
 /// counts the verdicts, the temporary authorizations and the entries.
 ///
 /// # Errors
-/// `WriteFault` exactly where the output counted a fault, which its last write did; `NoMemory`, which
-/// may come in place of any other answer.
+/// `JournalFull` only where a journal of the greatest limits is full after entries of the run, and
+/// a further one is due, and then nothing was written; `WriteFault` exactly where the output
+/// counted a fault, which its last write did; `NoMemory`, which may come in place of any other
+/// answer.
 pub fn load_run<O: Sink>(alloc: Global, checks: u32, output: &mut O) -> Status
     requires checks { (1 ≤ checks) × (checks ≤ 100000) }
 
@@ -40,7 +44,10 @@ pub fn load_run<O: Sink>(alloc: Global, checks: u32, output: &mut O) -> Status
 {
     let line = match generated_line(alloc, checks) {
         Ok(line) => line,
-        Err(NoMemory) => return Status::NoMemory,
+        Err(RunRefused::JournalFull { entries, bytes }) => {
+            return Status::JournalFull { entries, bytes };
+        }
+        Err(RunRefused::NoMemory) => return Status::NoMemory,
     };
     match write_all(output, line.as_slice()) {
         Ok(()) => return Status::Done,

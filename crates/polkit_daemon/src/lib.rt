@@ -2,7 +2,6 @@
 #![tactic(auto)]
 
 mod command;
-mod counts;
 mod generating;
 mod refused;
 mod replaying;

@@ -1,4 +1,4 @@
-// What a load of a tree may refuse, as the status of a command tells it.
+// Why a load of a tree is refused, as the status of a command tells it.
 use pk_types::Text;
 use std::fmt;
 
@@ -18,13 +18,13 @@ pub enum LoadLimit {
 /// Why a table of users, groups, sessions or processes is refused. Lines are counted from 1.
 #[derive(Clone, Copy, Debug, PartialEq, Eq)]
 pub enum TableFault {
-    /// The file is over its limit.
+    /// The file is larger than its limit.
     TooLong,
-    /// The line has not the fields of its table.
+    /// The line does not have the fields of its table.
     Fields { line: u64 },
-    /// A number is none, or out of its range.
+    /// A number isn't one, or is out of its range.
     Number { line: u64 },
-    /// The line's key stands already.
+    /// An earlier line has the same key.
     Repeated { line: u64 },
     /// The line names a row that is not there.
     Dangling { line: u64 },

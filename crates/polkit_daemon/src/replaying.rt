@@ -1,23 +1,25 @@
 // The command that replays a scenario.
 ghost use Rattle.std.specs.Prelude.{◌≡◌, ◌≤◌, IsNone, IfOk, OnOk};
-ghost use Rattle.authority_model.specs.Items.{sent};
+ghost use Rattle.authority_model.specs.Items.{empty_loaded, sent};
 ghost use Rattle.authority_model.specs.Legal.{Legal};
 ghost use Rattle.polkit_daemon.specs.Counted.{counted};
 ghost use Rattle.polkit_daemon.specs.Faults.{InputFaults, OutputFaults, LineWrites};
 ghost use Rattle.polkit_daemon.specs.Lines.{LastWritten, LineDone, stop_of, status_of};
 ghost use Rattle.polkit_daemon.specs.Playing.{Begins};
 ghost use Rattle.polkit_daemon.specs.Replay.{Replays};
-ghost use Rattle.authority_core.specs.Journal.{AreAllowed};
+ghost use Rattle.authority_model.specs.Entering.{AreAllowed};
+ghost use Rattle.scenario_run.specs.Scene.{start};
 
-use crate::counts::Counts;
 use crate::status::Status;
 use crate::written::{WriteRefused, write_answers};
 use authority_core::Limits;
+use authority_model::Loaded;
+use journal_state::SentCounts;
 use line_reader::{LineRead, LineReader};
 use pk_outside::{Sink, Source, Tree};
 use pk_types::{NoMemory, Text};
-use scenario_run::{LineEffect, ScenarioRun};
-use scenario_text::{LineKind, MAX_LINE};
+use scenario_run::{LineEffect, LineStop, ScenarioRun};
+use scenario_text::{LineFault, LineKind, MAX_LINE};
 use std::alloc::Global;
 
 /// Why a run stopped at a line.
@@ -25,19 +27,27 @@ use std::alloc::Global;
 enum Stopped {
     /// The line has this fault.
     Fault(LineKind),
+    /// The journal was full. It has this many entries and counted bytes.
+    JournalFull { entries: u64, bytes: u64 },
     /// The output failed, and counted it.
     WriteFault,
     /// Memory was refused.
     NoMemory,
 }
 
-/// How a line stops the run, by its fault.
-fn stop_of(kind: LineKind) -> Stopped
-    ensures stop { result ≡ stop_of kind }
+/// How a line stops the run.
+fn stop_of(stop: LineStop) -> Stopped
+    ensures stop { result ≡ stop_of stop }
 {
-    match kind {
-        LineKind::NoMemory => Stopped::NoMemory,
-        kind => Stopped::Fault(kind),
+    match stop {
+        LineStop::Fault(
+            LineFault {
+                kind: LineKind::NoMemory,
+                ..
+            },
+        ) => Stopped::NoMemory,
+        LineStop::Fault(LineFault { kind, .. }) => Stopped::Fault(kind),
+        LineStop::JournalFull { entries, bytes } => Stopped::JournalFull { entries, bytes },
     }
 }
 
@@ -47,6 +57,7 @@ fn status_of(stopped: Stopped, number: u64) -> Status
 {
     match stopped {
         Stopped::Fault(kind) => Status::BadLine { line: number, kind },
+        Stopped::JournalFull { entries, bytes } => Status::JournalFull { entries, bytes },
         Stopped::WriteFault => Status::WriteFault,
         Stopped::NoMemory => Status::NoMemory,
     }
@@ -56,7 +67,7 @@ fn status_of(stopped: Stopped, number: u64) -> Status
 fn write_last<O: Sink>(
     alloc: Global,
     scenario: &ScenarioRun,
-    counts: &mut Counts,
+    counts: &mut SentCounts,
     output: &mut O,
 ) -> Result<(), Stopped>
     ensures written { LastWritten scenario.now.past (counted counts.old) (counted counts.new) (O.held output.old) (O.held output.new) result }
@@ -81,7 +92,7 @@ fn write_last<O: Sink>(
 fn answer<O: Sink>(
     alloc: Global,
     scenario: &mut ScenarioRun,
-    counts: &mut Counts,
+    counts: &mut SentCounts,
     line: &[u8],
     number: u64,
     output: &mut O,
@@ -96,7 +107,7 @@ fn answer<O: Sink>(
     match scenario.take_line(alloc, line, number) {
         Ok(LineEffect::Draft) => Ok(()),
         Ok(LineEffect::Entry) => write_last(alloc, scenario, counts, output),
-        Err(fault) => Err(stop_of(fault.kind)),
+        Err(stop) => Err(stop_of(stop)),
     }
 }
 
@@ -106,25 +117,26 @@ struct Playback {
     alloc: Global,
     reader: LineReader,
     scenario: ScenarioRun,
-    counts: Counts,
+    counts: SentCounts,
     line: Vec<u8>,
     /// The number of the next line, counted from 1.
     number: u64,
 }
 
 impl Playback {
-    /// A replay that has read nothing.
-    fn start(alloc: Global, limits: Limits) -> Result<Playback, NoMemory>
+    /// A replay that has read nothing, and begins with this draft.
+    fn start(alloc: Global, limits: Limits, draft: Loaded) -> Result<Playback, NoMemory>
         requires limits { AreAllowed limits }
         ensures begins { IfOk result Begins }
+        ensures scenario { IfOk result (λ playback. playback.scenario ≡ start limits draft) }
     {
         let reader = LineReader::new(alloc)?;
-        let scenario = ScenarioRun::start(alloc, limits)?;
+        let scenario = ScenarioRun::start(alloc, limits, draft)?;
         Ok(Playback {
             alloc,
             reader,
             scenario,
-            counts: Counts::new(alloc),
+            counts: SentCounts::start(alloc),
             line: Vec::new(alloc),
             number: 1,
         })
@@ -133,7 +145,7 @@ impl Playback {
     /// Runs the lines of the input, until it ends or the first fault comes.
     fn run<I: Source, O: Sink>(&mut self, input: &mut I, output: &mut O) -> Status
         requires begins { Begins self.old }
-        ensures run { Replays (I.left input.old) (I.left input.new) (I.ended input.new) (O.held output.old) (O.held output.new) result }
+        ensures run { Replays self.old.scenario (I.left input.old) (I.left input.new) (I.ended input.new) (O.held output.old) (O.held output.new) result }
         ensures read { InputFaults I.left I.faults input.old input.new result }
         ensures write { OutputFaults O.held O.faults output.old output.new result }
     {
@@ -174,10 +186,12 @@ impl Playback {
 /// Runs the scenario that the input gives, and writes its answer lines.
 ///
 /// The lines are run one after another, until the input ends or the first fault comes; what was
-/// answered before a fault stays written. The tree is not asked, and the limits have no effect yet.
+/// answered before a fault stays written. The tree is not read.
 ///
 /// # Errors
 /// `BadLine` only where that line has that first fault and the lines before it have none;
+/// `JournalFull` exactly where a further entry was due and the journal had reached its limit of entries
+/// or of counted bytes;
 /// `ReadFault` and `WriteFault` exactly where the input or the output counted a fault, which its last
 /// call did; `NoMemory`, which may come in place of any other answer.
 pub fn replay<T: Tree, I: Source, O: Sink>(
@@ -193,13 +207,13 @@ pub fn replay<T: Tree, I: Source, O: Sink>(
 
     // What is written is the text of the legal history that the bytes read make, as far as the
     // status says.
-    ensures run { Replays (I.left input.old) (I.left input.new) (I.ended input.new) (O.held output.old) (O.held output.new) result }
+    ensures run { Replays (start limits empty_loaded) (I.left input.old) (I.left input.new) (I.ended input.new) (O.held output.old) (O.held output.new) result }
 
     // A fault of the outside is told exactly where the object counted it, by its last call.
     ensures read { InputFaults I.left I.faults input.old input.new result }
     ensures write { OutputFaults O.held O.faults output.old output.new result }
 {
-    match Playback::start(alloc, limits) {
+    match Playback::start(alloc, limits, Loaded::empty(alloc)) {
         Ok(mut playback) => playback.run(input, output),
         Err(NoMemory) => Status::NoMemory,
     }

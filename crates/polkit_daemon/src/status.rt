@@ -29,9 +29,9 @@ pub enum Status {
     Admissions { admitted: u32 },
     /// A line of the scenario is not in its grammar. Lines are counted from 1.
     BadLine { line: u64, kind: LineKind },
-    /// The input is no message, at this byte.
+    /// The input is not a message, with the fault at this byte.
     BadBytes { kind: FaultKind, at: u64 },
-    /// The input ended inside a message, of which so many bytes came.
+    /// The input ended inside a message, after this many bytes of it.
     Truncated { rest: u64 },
     /// A listening socket could not be made or shut.
     DoorFault,

@@ -1,6 +1,8 @@
 // The top call: the command that the words name.
 ghost use Rattle.std.specs.Prelude.{◌≡◌, ◌↔◌, None, Some, ℕ};
-ghost use Rattle.polkit_daemon.specs.Commands.{command_of};
+ghost use Rattle.authority_model.specs.Items.{empty_loaded};
+ghost use Rattle.scenario_run.specs.Scene.{start};
+ghost use Rattle.polkit_daemon.specs.Commands.{command_of, limits_of};
 ghost use Rattle.polkit_daemon.specs.Faults.{InputFaults, OutputFaults};
 ghost use Rattle.polkit_daemon.specs.Generate.{Generates};
 ghost use Rattle.polkit_daemon.specs.Replay.{Replays};
@@ -9,7 +11,7 @@ use crate::command::Command;
 use crate::generating::load_run;
 use crate::replaying::replay;
 use crate::status::Status;
-use authority_core::Limits;
+use authority_model::{Limits, MAX_BYTES};
 use pk_outside::{Sink, Source, Station, Tree};
 use pk_types::Text;
 use std::alloc::Global;
@@ -36,8 +38,8 @@ pub fn polkitd<R: Threads + Wait + Sync, T: Tree, N: Station, I: Source, O: Sink
 
     // A replay writes the text of the legal history that the bytes read make, as far as the status
     // says.
-    ensures replay { command_of words.now ≡ Some Command.Replay →
-        Replays (I.left input.old) (I.left input.new) (I.ended input.new) (O.held output.old) (O.held output.new) result }
+    ensures replay { (entries : ℕ) → command_of words.now ≡ Some (Command.Replay entries) →
+        Replays (start (limits_of entries) empty_loaded) (I.left input.old) (I.left input.new) (I.ended input.new) (O.held output.old) (O.held output.new) result }
 
     // A generated run writes its one line, as far as the status says, and reads nothing.
     ensures load { (checks : ℕ) → command_of words.now ≡ Some (Command.Load checks) →
@@ -49,7 +51,13 @@ pub fn polkitd<R: Threads + Wait + Sync, T: Tree, N: Station, I: Source, O: Sink
     ensures write { OutputFaults O.held O.faults output.old output.new result }
 {
     match Command::read(words) {
-        Some(Command::Replay) => replay(alloc, None, Limits::GREATEST, tree, input, output),
+        Some(Command::Replay { entries }) => {
+            let limits = Limits {
+                entries,
+                bytes: MAX_BYTES,
+            };
+            replay(alloc, None, limits, tree, input, output)
+        }
         Some(Command::Load { checks }) => load_run(alloc, checks, output),
         None => Status::Usage,
     }

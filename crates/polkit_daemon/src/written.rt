@@ -5,8 +5,8 @@ ghost use Rattle.scenario_run.specs.Text.{outputs_text, counts_after};
 ghost use Rattle.polkit_daemon.specs.Counted.{counted};
 ghost use Rattle.polkit_daemon.specs.Faults.{AnswerWrites};
 
-use crate::counts::Counts;
 use authority_model::{History, Output};
+use journal_state::SentCounts;
 use pk_outside::{Failed, Sink, write_all};
 use pk_types::NoMemory;
 use scenario_text::answer_text;
@@ -48,7 +48,7 @@ impl From<NoMemory> for WriteRefused {
 fn write_answer<O: Sink>(
     alloc: Global,
     history: &History,
-    counts: &mut Counts,
+    counts: &mut SentCounts,
     answer: &Output,
     output: &mut O,
 ) -> Result<(), WriteRefused>
@@ -58,7 +58,7 @@ fn write_answer<O: Sink>(
     ensures faults { AnswerWrites O.held O.faults output.old output.new result }
     ensures later { O.faults output.old ≤ O.faults output.new }
 {
-    let serial = counts.next(answer.to)?;
+    let serial = counts.count_one(answer.to)?;
     let line = answer_text(alloc, answer, history, serial)?;
     write_all(output, line.as_slice())?;
     Ok(())
@@ -68,7 +68,7 @@ fn write_answer<O: Sink>(
 pub fn write_answers<O: Sink>(
     alloc: Global,
     history: &History,
-    counts: &mut Counts,
+    counts: &mut SentCounts,
     answers: &[Output],
     output: &mut O,
 ) -> Result<(), WriteRefused>

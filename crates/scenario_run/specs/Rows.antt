@@ -24,7 +24,7 @@ put_at rows row None = rows ++ row ∷ []
 abbrev pub put_by : {A : Type 0} → (A → A → Bool) → List A → A → List A
 put_by same rows row = put_at rows row (place_of same rows row)
 
--- the row's key is new, and as many rows as may stand in the list
+-- the row's key is new, and the list has as many rows as it may have
 abbrev pub is_full_for : {A : Type 0} → (A → A → Bool) → List A → A → Bool
 is_full_for same rows row = is_none (place_of same rows row) && nat_le MAX_ROWS (length rows)
 

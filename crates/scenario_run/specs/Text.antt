@@ -21,17 +21,17 @@ abbrev pub outputs_text : List Loaded → (ℕ → ℕ) → List Output → List
 outputs_text loads counts [] = []
 outputs_text loads counts (o ∷ outputs) = message_line loads o.to (counts o.to + 1) o.message ++ outputs_text loads (one_more counts o.to) outputs
 
--- the counts behind these outputs
+-- the counts after these outputs
 abbrev pub counts_after : (ℕ → ℕ) → List Output → ℕ → ℕ
 counts_after counts [] = counts
 counts_after counts (o ∷ outputs) = counts_after (one_more counts o.to) outputs
 
--- the lines of all outputs, each by the loads that stood when it was sent
+-- the lines of all outputs, each by the loads that were there when it was sent
 abbrev pub text_of : List Item → List ℕ
 text_of [] = []
 text_of (i ∷ past) = text_of past ++ outputs_text (loads_of (i ∷ past)) (sent past) i.entry.outputs
 
--- One item stands on top that was not there, and nothing that has a text came in between.
+-- One new item is on top, and nothing that has a text came in between.
 pub record IsEntered (old new : List Item) : Type 0 where
   pub item : Item
   pub past : List Item

@@ -77,7 +77,7 @@ fn implied_by(action: &Action) -> &[u8]
     }
 }
 
-/// Ids with one more behind them.
+/// Ids with one more after them.
 fn one_more_id(alloc: Global, ids: &[u8], id: &[u8]) -> Result<Vec<u8>, NoMemory>
     ensures bytes { IfOk result (λ bytes. bytes.items ≡ one_more_id ids.now id.now) }
 {
@@ -92,8 +92,8 @@ fn one_more_id(alloc: Global, ids: &[u8], id: &[u8]) -> Result<Vec<u8>, NoMemory
 /// The draft's first action with the id implies one more.
 ///
 /// # Errors
-/// `Value` exactly where there is no such action, or its annotation would be no text, or its
-/// annotations are too many; `NoMemory`.
+/// `Value` exactly where there is no such action, or its annotation would not be a text, or it has
+/// too many annotations; `NoMemory`.
 pub fn imply(
     alloc: Global,
     draft: &mut Loaded,
@@ -115,7 +115,7 @@ pub fn imply(
 /// The draft's first action with the id has these owners.
 ///
 /// # Errors
-/// As of `imply`.
+/// As for `imply`.
 pub fn own(
     alloc: Global,
     draft: &mut Loaded,

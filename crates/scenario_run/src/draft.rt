@@ -119,7 +119,7 @@ fn take_action(draft: &mut Loaded, id: &ActionId)
 /// Changes the draft as a step says.
 ///
 /// # Errors
-/// `Value` where the draft can't be changed so, and for a step that is no line of the draft or
+/// `Value` where the draft can't be changed so, and for a step that is not a line of the draft or
 /// that is not built; `NoMemory`.
 pub fn change(alloc: Global, draft: &mut Loaded, step: Step) -> Result<(), LineKind>
     ensures ok { OnOk result (drafted draft.old step ≡ Ok draft.new) }

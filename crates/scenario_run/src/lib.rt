@@ -10,4 +10,4 @@ mod rows;
 mod scenario;
 mod texts;
 
-pub use scenario::{LineEffect, ScenarioRun};
+pub use scenario::{LineEffect, LineStop, ScenarioRun};

@@ -10,7 +10,7 @@ use scenario_text::LineKind;
 /// How many rows a list of the draft may have.
 pub const MAX_ROWS: usize = 1_048_576;
 
-/// A row of the draft, which stands once for its key.
+/// A row of the draft, of which there is one for each key.
 pub trait Keyed: Drop {
     /// Whether two rows have one key.
     ghost same: { Self → Self → Bool };

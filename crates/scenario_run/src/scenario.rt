@@ -1,14 +1,14 @@
 // A run of scenario lines: the draft, and the authority that is asked.
-ghost use Rattle.std.specs.Prelude.{◌≡◌, ◌≤◌, Ok, IfOk, OnOk, IfErr};
-ghost use Rattle.authority_model.specs.Given.{IsStepped};
-ghost use Rattle.authority_model.specs.Items.{items_of};
-ghost use Rattle.authority_model.specs.Legal.{IsLegal};
-ghost use Rattle.scenario_run.specs.Text.{loads_of};
+ghost use Rattle.std.specs.Prelude.{◌≡◌, ◌≤◌, ◌∷◌, [], Ok, IfOk, OnOk, IfErr};
+ghost use Rattle.authority_model.specs.Given.{IsStepped, event_given};
+ghost use Rattle.authority_model.specs.Items.{items_of, sent};
+ghost use Rattle.authority_model.specs.Legal.{IsLegal, Legal};
+ghost use Rattle.scenario_run.specs.Text.{IsEntered, loads_of, text_of};
 ghost use Rattle.scenario_text.specs.Faults.{IsFaultOf};
 ghost use Rattle.scenario_text.specs.Runs.{IsRunnable};
 
 use crate::draft::change;
-use authority_core::{Authority, Limits};
+use authority_core::{Authority, Limits, LoadStepRefused, StepRefused};
 use authority_model::{Event, History, Loaded, Output};
 use pk_types::{NoMemory, TryCopy};
 use scenario_text::{LineFault, LineKind, Step, read_line};
@@ -22,6 +22,53 @@ pub enum LineEffect {
     Draft,
     /// It made an entry, which is the journal's last.
     Entry,
+}
+
+/// What stopped a run at a line.
+#[derive(Clone, Copy, Debug, PartialEq, Eq)]
+pub enum LineStop {
+    /// The line has this fault, or memory was refused.
+    Fault(LineFault),
+    /// A further entry was due, and the journal had reached a limit. It has this many entries and
+    /// counted bytes.
+    JournalFull { entries: u64, bytes: u64 },
+}
+
+/// Why nothing was entered.
+#[derive(Clone, Copy, Debug, PartialEq, Eq)]
+enum Refused {
+    /// The journal had reached a limit. It has this many entries and counted bytes.
+    JournalFull { entries: u64, bytes: u64 },
+    /// Memory was refused.
+    NoMemory,
+}
+
+impl From<NoMemory> for Refused {
+    ghost use Rattle.std.specs.Prelude.{◌≡◌};
+    ghost use Rattle.scenario_run.specs.declared.scenario.Refused.TheVariants as refused;
+
+    ghost from_gives = { λ _ given. given ≡ refused.NoMemory };
+
+    fn from(_: NoMemory) -> Self {
+        Refused::NoMemory
+    }
+}
+
+impl Refused {
+    ghost use Rattle.scenario_run.specs.ScenarioRuns.{stop_at};
+
+    /// How this stops the run at a line.
+    fn at(self, line: u64) -> LineStop
+        ensures stop { result ≡ stop_at line self }
+    {
+        match self {
+            Refused::JournalFull { entries, bytes } => LineStop::JournalFull { entries, bytes },
+            Refused::NoMemory => LineStop::Fault(LineFault {
+                line,
+                kind: LineKind::NoMemory,
+            }),
+        }
+    }
 }
 
 /// Where a scenario stands: the draft of the next load, the moment of the next event, and the
@@ -40,24 +87,24 @@ impl Model for ScenarioRun {
 
     ghost Value = { Scene };
 
-    ghost view = { λ s. record { draft = s.draft; moment = s.moment; past = items_of s.authority.history } };
+    ghost view = { λ s. record { limits = s.authority.limits; draft = s.draft; moment = s.moment; past = items_of s.authority.history } };
 
     ghost invariant = { λ s. s.moment ≤ 2 ^ 62 };
 }
 
 impl ScenarioRun {
-    ghost use Rattle.authority_core.specs.Journal.{AreAllowed};
-    ghost use Rattle.scenario_run.specs.Scene.{start, begun, reloaded, acted, with_past, run_step, run_line};
-    ghost use Rattle.scenario_run.specs.ScenarioRuns.{EffectIs, last_outputs};
+    ghost use Rattle.authority_model.specs.Entering.{AreAllowed};
+    ghost use Rattle.scenario_run.specs.Scene.{start, reached, handed_in, load_of, first_load, given_for, run_step, run_line};
+    ghost use Rattle.scenario_run.specs.ScenarioRuns.{EffectIs, IsAt, IsRefused, IsStop, last_outputs};
 
-    /// An empty draft, moment 0 and an authority with an empty journal.
-    pub fn start(alloc: Global, limits: Limits) -> Result<ScenarioRun, NoMemory>
+    /// A run that begins with this draft, at moment 0, over an authority with an empty journal.
+    pub fn start(alloc: Global, limits: Limits, draft: Loaded) -> Result<ScenarioRun, NoMemory>
         requires limits { AreAllowed limits }
-        ensures start { IfOk result (λ scenario. scenario ≡ start) }
+        ensures start { IfOk result (λ scenario. scenario ≡ start limits draft) }
     {
         let authority = Authority::start(alloc, limits)?;
         Ok(ScenarioRun {
-            draft: Loaded::empty(alloc),
+            draft,
             moment: 0,
             authority,
         })
@@ -83,44 +130,68 @@ impl ScenarioRun {
     }
 
     /// Loads the draft.
-    fn reload(&mut self) -> Result<(), NoMemory>
-        ensures ok { OnOk result (self.new ≡ with_past self.old (reloaded self.old)) }
+    fn load_draft(&mut self) -> Result<(), Refused>
+        ensures ok { OnOk result (handed_in self.old (load_of self.old ∷ []) ≡ reached self.new) }
+        ensures entered { OnOk result (IsEntered self.old.past self.new.past) }
+        ensures refused { IfErr result (IsRefused self.old self.new (handed_in self.old (load_of self.old ∷ []))) }
     {
         let draft = self.draft.try_copy()?;
         match self.authority.load(0, self.moment, draft) {
             Ok(_) => return Ok(()),
-            Err(_) => return Err(NoMemory),
+            Err(LoadStepRefused::JournalFull { entries, bytes, .. }) => {
+                return Err(Refused::JournalFull { entries, bytes });
+            }
+            Err(LoadStepRefused::NoMemory { .. }) => return Err(Refused::NoMemory),
         }
     }
 
     /// Loads the draft, unless an event came before.
-    fn begin(&mut self) -> Result<(), NoMemory>
-        ensures ok { OnOk result (self.new ≡ with_past self.old (begun self.old.draft self.old.moment self.old.past)) }
+    fn begin(&mut self) -> Result<(), Refused>
+        ensures ok { OnOk result (handed_in self.old (first_load self.old self.old.past) ≡ reached self.new) }
+        ensures text { OnOk result (text_of self.new.past ≡ text_of self.old.past) }
+        ensures counts { OnOk result (sent self.new.past ≡ sent self.old.past) }
+        ensures refused { IfErr result (IsRefused self.old self.new (handed_in self.old (first_load self.old self.old.past))) }
     {
         if !self.authority.history().entries.is_empty() {
             return Ok(());
         }
-        self.reload()
+        self.load_draft()
     }
 
-    /// Submits an event, before which the draft is loaded if there was none.
-    fn act(&mut self, caller: u32, event: Event) -> Result<(), NoMemory>
+    /// Submits an event.
+    fn step(&mut self, caller: u32, event: Event) -> Result<(), Refused>
         requires { IsStepped event }
-        ensures ok { OnOk result (self.new ≡ with_past self.old (acted self.old caller event)) }
+        ensures ok { OnOk result (handed_in self.old (event_given caller self.old.moment 0 event ∷ []) ≡ reached self.new) }
+        ensures entered { OnOk result (IsEntered self.old.past self.new.past) }
+        ensures refused { IfErr result (IsRefused self.old self.new (handed_in self.old (event_given caller self.old.moment 0 event ∷ []))) }
     {
-        self.begin()?;
         match self.authority.step(caller, self.moment, 0, event) {
             Ok(_) => return Ok(()),
-            Err(_) => return Err(NoMemory),
+            Err(StepRefused::JournalFull { entries, bytes, .. }) => {
+                return Err(Refused::JournalFull { entries, bytes });
+            }
+            Err(StepRefused::NoMemory { .. }) => return Err(Refused::NoMemory),
         }
     }
 
-    /// Does what a step says.
-    fn take_step(&mut self, alloc: Global, step: Step) -> Result<LineEffect, LineKind>
+    /// Submits an event. The draft is loaded first, if no event came before.
+    fn act(&mut self, caller: u32, event: Event) -> Result<(), Refused>
+        requires { IsStepped event }
+        ensures ok { OnOk result (handed_in self.old (given_for self.old caller event) ≡ reached self.new) }
+        ensures entered { OnOk result (IsEntered self.old.past self.new.past) }
+        ensures refused { IfErr result (IsRefused self.old self.new (handed_in self.old (given_for self.old caller event))) }
+    {
+        self.begin()?;
+        self.step(caller, event)
+    }
+
+    /// Does what the step of a line says.
+    fn take_step(&mut self, alloc: Global, step: Step, line: u64) -> Result<LineEffect, LineStop>
         requires { IsRunnable step }
-        ensures ok { OnOk result (run_step self.old step ≡ Ok self.new) }
+        ensures ok { OnOk result (run_step self.old step ≡ Ok (reached self.new)) }
         ensures taken { IfOk result (λ taken. EffectIs taken self.old.past self.new.past) }
-        ensures err { IfErr result (λ kind. IsFaultOf kind (run_step self.old step)) }
+        ensures stop { IfErr result (IsStop self.old self.new (run_step self.old step)) }
+        ensures line { IfErr result (IsAt line) }
     {
         match step {
             Step::Blank => Ok(LineEffect::Draft),
@@ -128,40 +199,40 @@ impl ScenarioRun {
                 self.moment = t;
                 Ok(LineEffect::Draft)
             }
-            Step::Reload => {
-                self.reload()?;
-                Ok(LineEffect::Entry)
-            }
-            Step::Act { caller, event } => {
-                self.act(caller, event)?;
-                Ok(LineEffect::Entry)
-            }
-            change_of_draft => {
-                change(alloc, &mut self.draft, change_of_draft)?;
-                Ok(LineEffect::Draft)
-            }
+            Step::Reload => match self.load_draft() {
+                Ok(()) => Ok(LineEffect::Entry),
+                Err(refused) => Err(refused.at(line)),
+            },
+            Step::Act { caller, event } => match self.act(caller, event) {
+                Ok(()) => Ok(LineEffect::Entry),
+                Err(refused) => Err(refused.at(line)),
+            },
+            change_of_draft => match change(alloc, &mut self.draft, change_of_draft) {
+                Ok(()) => Ok(LineEffect::Draft),
+                Err(kind) => Err(LineStop::Fault(LineFault { line, kind })),
+            },
         }
     }
 
-    /// Does what a line says, which has this number.
+    /// Does what the line with this number says.
     ///
     /// # Errors
-    /// The first fault of the line, or `NoMemory`.
+    /// `Fault` with the first fault of the line, or `NoMemory`; `JournalFull` exactly where the line is
+    /// in the grammar and the journal has reached a limit before an entry that the line makes.
     pub fn take_line(
         &mut self,
         alloc: Global,
         line: &[u8],
         number: u64,
-    ) -> Result<LineEffect, LineFault>
-        ensures ok { OnOk result (run_line self.old line.now ≡ Ok self.new) }
+    ) -> Result<LineEffect, LineStop>
+        ensures ok { OnOk result (run_line self.old line.now ≡ Ok (reached self.new)) }
         ensures taken { IfOk result (λ taken. EffectIs taken self.old.past self.new.past) }
-        ensures err { IfErr result (λ fault. IsFaultOf fault.kind (run_line self.old line.now)) }
-        ensures line { IfErr result (λ fault. fault.line ≡ number) }
+        ensures stop { IfErr result (IsStop self.old self.new (run_line self.old line.now)) }
+        ensures line { IfErr result (IsAt number) }
     {
-        let step = read_line(alloc, line, number)?;
-        match self.take_step(alloc, step) {
-            Ok(taken) => Ok(taken),
-            Err(kind) => Err(LineFault { line: number, kind }),
+        match read_line(alloc, line, number) {
+            Ok(step) => self.take_step(alloc, step, number),
+            Err(fault) => Err(LineStop::Fault(fault)),
         }
     }
 }

@@ -9,7 +9,7 @@ use pk_types::{NoMemory, Text, TextFault};
 use scenario_text::LineKind;
 use std::alloc::Global;
 
-/// The text of these bytes, and `Value` exactly where they are none.
+/// The text of these bytes, and `Value` exactly where they are not a text.
 pub fn text(alloc: Global, bytes: &[u8]) -> Result<Text, LineKind>
     ensures value { Gives result (any_text_in bytes.now) }
 {
@@ -20,7 +20,7 @@ pub fn text(alloc: Global, bytes: &[u8]) -> Result<Text, LineKind>
     }
 }
 
-/// A text of bytes that are one.
+/// The text of bytes that are a valid text.
 pub fn known_text(alloc: Global, bytes: &[u8]) -> Result<Text, LineKind>
     requires { IsText bytes.now }
     ensures value { Gives result (Ok bytes.now) }
@@ -46,14 +46,14 @@ fn label(alloc: Global, kind: &[u8], name: &Text) -> Result<Text, LineKind>
     text(alloc, &bytes)
 }
 
-/// `unix-user:NAME`, and `Value` exactly where that is no text.
+/// `unix-user:NAME`, and `Value` exactly where that is not a text.
 pub fn user_label(alloc: Global, name: &Text) -> Result<Text, LineKind>
     ensures value { Gives result (any_text_in (codes "unix-user:" ++ name.now)) }
 {
     label(alloc, b"unix-user:".as_slice(), name)
 }
 
-/// `unix-group:NAME`, and `Value` exactly where that is no text.
+/// `unix-group:NAME`, and `Value` exactly where that is not a text.
 pub fn group_label(alloc: Global, name: &Text) -> Result<Text, LineKind>
     ensures value { Gives result (any_text_in (codes "unix-group:" ++ name.now)) }
 {

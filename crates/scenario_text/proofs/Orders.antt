@@ -40,18 +40,18 @@ of_word : (k : LineKind) (rest : Faults) → IsOfWord k → NoNumber rest → So
 of_word _ rest number values = refl
 of_word _ rest value values = rw values.none refl
 
--- a word of either fault, before words that are no numbers
+-- a word of either fault, before words without a faulty number
 then_values : {A B : Type 0} (r : Result A LineKind) (f : A → Result B LineKind) {rest : Faults} → OnlyOfWord r → NoNumber rest
     → ((x : A) → IsKindOf (f x) rest) → IsKindOf (r >>= f) (fault_in r ∷ rest)
 then_values (Ok x) f only values read = record { same = (read x).same }
 then_values (Err k) f {rest} only values read = record { same = of_word k rest (only k refl) values }
 
--- a word that is no number, before words that are none
+-- a word with no fault but Value, before words without a faulty number
 then_value : {A B : Type 0} (r : Result A LineKind) (f : A → Result B LineKind) {rest : Faults} → OnlyValue r → NoNumber rest
     → ((x : A) → IsKindOf (f x) rest) → IsKindOf (r >>= f) (fault_in r ∷ rest)
 then_value r f only values read = then_values r f (value_of_word r only) values read
 
--- no words are no numbers
+-- without words there is no faulty number
 no_words : NoNumber []
 no_words = record { none = refl }
 
@@ -59,7 +59,7 @@ no_words = record { none = refl }
 no_fault : {A : Type 0} (x : A) → IsKindOf (Ok x) []
 no_fault x = record { same = refl }
 
--- a word that is no number, before words that are no numbers
+-- a word with no fault but Value, and words without a faulty number
 no_number : {A : Type 0} (r : Result A LineKind) {rest : Faults} → OnlyValue r → NoNumber rest → NoNumber (fault_in r ∷ rest)
 no_number (Ok x) only values = record { none = values.none }
 no_number (Err k) only values = record { none = rw (only k refl) values.none }
@@ -70,7 +70,7 @@ or_swapped true false c = refl
 or_swapped false true c = refl
 or_swapped false false c = refl
 
--- the order of the words says nothing
+-- the order of the words does not matter
 swapped : {B : Type 0} (r : Result B LineKind) (a b : Option LineKind) (rest : Faults) → IsKindOf r (b ∷ a ∷ rest) → IsKindOf r (a ∷ b ∷ rest)
 swapped r a b rest read = record {
   same = rw (or_swapped (is_number a) (is_number b) (list_any is_number rest), or_swapped (is_fault a) (is_fault b) (list_any is_fault rest)) read.same;

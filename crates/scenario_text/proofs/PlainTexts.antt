@@ -35,7 +35,7 @@ no_zero (b ∷ bs) e =
     let above : 0 < b = ltb-true 0 b (both (nat_lt 0 b) (nat_lt b 128) (both (nat_lt 0 b && nat_lt b 128) (all_plain bs) e).0).0 in
     rw (ne_eqb b 0 (λ z. omega (arith, z)), no_zero bs (both (nat_lt 0 b && nat_lt b 128) (all_plain bs) e).1) (omega arith)
 
--- the place of a bad byte, where there is none and the front is all
+-- the place of a bad byte, where there is none and the prefix is all
 no_bad : (bs : List ℕ) (valid : ℕ) → valid ≡ length bs → position_or_len (λ b. b == 0) bs ≡ length bs
     → place_or_end (position (λ b. b == 0) (take valid bs)) valid (length bs) ≡ None
 no_bad bs valid e none = rw (e, take-length bs, none, le-ltb (length bs) (length bs) (omega arith), le-ltb (length bs) (length bs) (omega arith)) refl
@@ -50,7 +50,7 @@ plain_digits (d ∷ ds) each =
     let here : IsInRange 48 57 d = each 0 (omega arith) in
     rw (lt-ltb 0 d (omega arith), lt-ltb d 128 (omega arith), plain_digits ds (λ i h. each (suc i) (omega (arith, h)))) refl
 
--- the bus name of a caller is a text
+-- the bus name of a connection is a text
 pub bus_text : (caller : ℕ) → caller < 2 ^ 32 → IsText (bus_name caller)
 bus_text caller h =
     let digits = (decimal_is_IsNumeral caller (omega arith)).0.1 in

@@ -25,7 +25,7 @@ abbrev pub keep_text : Bool → List ℕ
 keep_text true = codes " keep"
 keep_text false = []
 
--- the grant that a verdict made
+-- the temporary authorization that a verdict made
 abbrev pub made_text : Option ℕ → List ℕ
 made_text None = []
 made_text (Some id) = codes " grant=" ++ grant_text id

@@ -1,4 +1,4 @@
--- The lines that make an event of a connection, by the words behind the first.
+-- The lines that make an event of a connection, by the words after the first.
 use Rattle.std.specs.Prelude.{ℕ, false, List, [], ◌∷◌, length, nat_lt, Option, None, Some, Result, Ok, Err, codes, if◌then◌else◌}
 use Rattle.std.specs.Str.{bytes_eq}
 use Rattle.authority_model.specs.declared.event.Call.{Call}
@@ -73,7 +73,7 @@ asking = record { flags = ALLOW_USER_INTERACTION; cancel = [] }
 abbrev pub with_cancel : CheckOptions → Result (List ℕ) LineKind → Result CheckOptions LineKind
 with_cancel options id = id >>= (λ text. Ok (record options { cancel = text }))
 
--- a cancellation id by what stands behind `cancel=`
+-- a cancellation id by what comes after `cancel=`
 abbrev pub cancel_of : Option (List ℕ) → Result (List ℕ) LineKind
 cancel_of None = Err kind.Value
 cancel_of (Some id) = text_in id
@@ -82,7 +82,7 @@ cancel_of (Some id) = text_in id
 unfoldable pub cancel_in : List ℕ → Result (List ℕ) LineKind
 cancel_in word = cancel_of (after_front (codes "cancel=") word)
 
--- the words behind the action of a check: none, `ask`, `cancel=ID` or both in this order
+-- the words after the action of a check: none, `ask`, `cancel=ID` or both in this order
 abbrev pub options_in : List (List ℕ) → Result CheckOptions LineKind
 options_in [] = Ok no_options
 options_in (word ∷ []) = if bytes_eq word (codes "ask") then Ok asking else with_cancel no_options (cancel_in word)
@@ -101,7 +101,7 @@ check_call subject action more = do
 unfoldable pub check_event : List ℕ → List ℕ → List ℕ → List ℕ → List (List ℕ) → Result Step LineKind
 check_event caller serial subject action more = call_event caller serial (check_call subject action more)
 
--- check N S SUBJECT ACTION, and at most two words behind them
+-- check N S SUBJECT ACTION, and at most two words after them
 abbrev pub check_line : List (List ℕ) → Result Step LineKind
 check_line (caller ∷ serial ∷ subject ∷ action ∷ more) =
     if nat_lt 2 (length more) then Err kind.Count else check_event caller serial subject action more
@@ -130,7 +130,7 @@ abbrev pub register_line : List (List ℕ) → Result Step LineKind
 register_line (caller ∷ serial ∷ subject ∷ path ∷ []) = call_event caller serial (register_call subject path)
 register_line other = Err kind.Count
 
--- a subject's agent is one no more
+-- an agent of a subject is unregistered
 abbrev pub unregister_call : List ℕ → List ℕ → Result Call LineKind
 unregister_call subject path = do
   b ← subject_in subject
@@ -199,7 +199,7 @@ abbrev pub revoke_id_line : List (List ℕ) → Result Step LineKind
 revoke_id_line (caller ∷ serial ∷ id ∷ []) = call_event caller serial (text_call call.RevokeOne id)
 revoke_id_line other = Err kind.Count
 
--- a line of a connection by its first word and the words behind it
+-- a line of a connection by its first word and the words after it
 abbrev pub caller_line : CallerWord → List (List ℕ) → Result Step LineKind
 caller_line caller_word.Peer args = peer_line args
 caller_line caller_word.Depart args = depart_line args

@@ -1,4 +1,4 @@
--- The lines that change the draft or the moment, by the words behind the first.
+-- The lines that change the draft or the moment, by the words after the first.
 use Rattle.std.specs.Prelude.{ℕ, ◌^◌, List, [], ◌∷◌, Result, Ok, Err}
 use Rattle.scenario_text.specs.declared.fault.LineKind.{LineKind}
 use Rattle.scenario_text.specs.declared.fault.LineKind.TheVariants as kind
@@ -42,7 +42,7 @@ owner_line (id ∷ identities ∷ []) = do
   Ok (step.Owner i os)
 owner_line other = Err kind.Count
 
--- entry IDENTITIES ACTIONS ANY INACTIVE ACTIVE, where `-` stands for no value, and one value stands
+-- entry IDENTITIES ACTIONS ANY INACTIVE ACTIVE, where `-` stands for no value, and at least one value is given
 abbrev pub entry_line : List (List ℕ) → Result Step LineKind
 entry_line (identities ∷ actions ∷ any ∷ inactive ∷ active ∷ []) = do
   is ← texts_in identities
@@ -125,7 +125,7 @@ abbrev pub reload_line : List (List ℕ) → Result Step LineKind
 reload_line [] = Ok step.Reload
 reload_line other = Err kind.Count
 
--- a line of the draft by its first word and the words behind it
+-- a line of the draft by its first word and the words after it
 abbrev pub draft_line : DraftWord → List (List ℕ) → Result Step LineKind
 draft_line draft.At args = at_line args
 draft_line draft.Action args = action_line args

@@ -34,15 +34,15 @@ listed text (x ∷ xs) = join_by text (codes ",") (x ∷ xs)
 abbrev pub identities_text : List Identity → List ℕ
 identities_text identities = listed identity_text identities
 
--- the id of a grant by its row
+-- the id of a temporary authorization by its row
 abbrev pub row_text : GrantRow → List ℕ
 row_text row = grant_text row.id
 
--- ids of grants with commas between them
+-- ids of temporary authorizations with commas between them
 abbrev pub grants_text : List GrantRow → List ℕ
 grants_text rows = listed row_text rows
 
--- a pair behind the words of a verdict
+-- a pair after the words of a verdict
 abbrev pub pair_text : Pair → List ℕ
 pair_text pair = codes " " ++ (escaped pair.key ++ (codes "=" ++ escaped pair.value))
 

@@ -8,3 +8,4 @@ pub mod Lines
 pub mod Order
 pub mod Escapes
 pub mod Answers
+pub mod Skipped

@@ -61,7 +61,7 @@ caller_word_of word =
 abbrev pub first_word_of : List ℕ → Option FirstWord
 first_word_of word = or_else (option_map first.Draft (draft_word_of word)) (option_map first.Caller (caller_word_of word))
 
--- a line by its first word and the words behind it
+-- a line by its first word and the words after it
 abbrev pub line_of : FirstWord → List (List ℕ) → Result Step LineKind
 line_of (first.Draft word) args = draft_line word args
 line_of (first.Caller word) args = caller_line word args

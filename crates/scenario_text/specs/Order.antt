@@ -21,7 +21,7 @@ use Rattle.scenario_text.specs.Lines.{first_word_of, is_blank}
 abbrev pub Faults : Type 0
 Faults = List (Option LineKind)
 
--- whether the fault of a word is that it is no number, or one out of its range
+-- whether the fault of a word is that it is not a number, or one out of its range
 abbrev pub is_number : Option LineKind → Bool
 is_number (Some kind.Number) = true
 is_number other = false
@@ -35,7 +35,7 @@ is_fault (Some k) = true
 abbrev pub kind_of_faults : Faults → Option LineKind
 kind_of_faults faults = if list_any is_number faults then Some kind.Number else if list_any is_fault faults then Some kind.Value else None
 
--- the faults of N S and of the words behind them
+-- the faults of N S and of the words after them
 abbrev pub behind_call : List ℕ → List ℕ → Faults → Option Faults
 behind_call caller serial faults = Some (fault_in (caller_in caller) ∷ fault_in (serial_in serial) ∷ faults)
 
@@ -85,7 +85,7 @@ caller_faults caller_word.Revoke (caller ∷ serial ∷ subject ∷ []) = behind
 caller_faults caller_word.RevokeId (caller ∷ serial ∷ id ∷ []) = behind_call caller serial (fault_in (text_in id) ∷ [])
 caller_faults word other = None
 
--- the faults of the words behind the first one, unless their count is wrong
+-- the faults of the words after the first one, unless their count is wrong
 abbrev pub faults_of : FirstWord → List (List ℕ) → Option Faults
 faults_of (first.Draft word) args = draft_faults word args
 faults_of (first.Caller word) args = caller_faults word args
@@ -95,7 +95,7 @@ abbrev pub count_or_kind : Option Faults → Option LineKind
 count_or_kind None = Some kind.Count
 count_or_kind (Some faults) = kind_of_faults faults
 
--- Word, or the fault of the words behind the first one
+-- Word, or the fault of the words after the first one
 abbrev pub word_or_kind : Option FirstWord → List (List ℕ) → Option LineKind
 word_or_kind None args = Some kind.Word
 word_or_kind (Some word) args = count_or_kind (faults_of word args)

@@ -31,7 +31,7 @@ subject_of_parts (word ∷ caller ∷ []) = if bytes_eq word (codes "bus") then 
 subject_of_parts (word ∷ pid ∷ start ∷ []) = if bytes_eq word (codes "process") then process_subject pid start else Err kind.Value
 subject_of_parts other = Err kind.Value
 
--- a session by what stands behind `session:`, and any other subject by its parts
+-- a session by what comes after `session:`, and any other subject by its parts
 abbrev pub subject_of : Option (List ℕ) → List (List ℕ) → Result Subject LineKind
 subject_of (Some id) parts = text_in id >>= (λ text. Ok (subject.Session text))
 subject_of None parts = subject_of_parts parts

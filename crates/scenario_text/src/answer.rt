@@ -11,7 +11,7 @@ use authority_model::{Answer, Cookie, History, Loaded, Message, Output};
 use pk_types::{ByteList, Identity, List, NoMemory, Text};
 use std::alloc::{AllocError, Global};
 
-/// How many actions the load with this number has; 0 for load 0 and for a number of no load.
+/// How many actions the load with this number has, and 0 for load 0 and for the number of no load.
 fn action_count(loads: &[Loaded], load: u32) -> usize
     ensures count { result ≡ action_count loads.now load }
 {
@@ -69,7 +69,7 @@ fn push_reply(
     text.push_str("\n")
 }
 
-/// Adds an action and those who may answer, each behind a space.
+/// Adds an action and those who may answer, each after a space.
 fn push_asked(text: &mut String, action: &Text, identities: &[Identity]) -> Result<(), AllocError>
     ensures ok { OnOk result (string_bytes text.new ≡ string_bytes text.old ++ (codes " " ++ (escaped action.now ++ (codes " " ++ identities_text identities.now)))) }
 {
@@ -153,7 +153,7 @@ fn push_message(
 /// The line of an output, ended by LF. `serial` is its number among the outputs to its
 /// connection, counted from 1, which BeginAuthentication shows.
 ///
-/// What asks the loader for something has no bytes.
+/// A request to the loader has no bytes.
 ///
 /// # Errors
 /// `NoMemory` alone.

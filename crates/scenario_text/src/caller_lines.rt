@@ -399,7 +399,7 @@ fn revoke_id_words(alloc: Global, args: &[&[u8]]) -> Result<Step, LineKind>
     }
 }
 
-/// A line that begins with this word, by the words behind it.
+/// A line that begins with this word, by the words after it.
 pub fn caller_step(alloc: Global, word: CallerWord, args: &[&[u8]]) -> Result<Step, LineKind>
     ensures value { Gives result (caller_line word (map (λ word. word.now) args.now)) }
     ensures runs { IfOk result IsRunnable }

@@ -1,4 +1,4 @@
-// The words behind the action of a check.
+// The words after the action of a check.
 ghost use Rattle.std.specs.Prelude.{[], ◌∷◌, map, codes};
 ghost use Rattle.scenario_text.specs.Faults.{Gives};
 ghost use Rattle.scenario_text.specs.CallerLines.{cancel_in, options_in};

@@ -327,7 +327,7 @@ fn reload_words(args: &[&[u8]]) -> Result<Step, LineKind>
     }
 }
 
-/// A line that begins with this word, by the words behind it.
+/// A line that begins with this word, by the words after it.
 pub fn draft_step(alloc: Global, word: DraftWord, args: &[&[u8]]) -> Result<Step, LineKind>
     ensures value { Gives result (draft_line word (map (λ word. word.now) args.now)) }
     ensures runs { IfOk result IsRunnable }

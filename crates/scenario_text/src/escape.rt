@@ -1,4 +1,4 @@
-// Texts and numbers as an answer line writes them: each is put behind what stands there.
+// Texts and numbers as an answer line writes them: each is added at the end.
 ghost use Rattle.std.specs.Prelude.{◌≡◌, ◌<◌, ◌++◌, true, string_bytes, OnOk};
 ghost use Rattle.std.specs.Fmt.{digit_glyph};
 ghost use Rattle.scenario_text.specs.Escapes.{is_plain, escape_of, escaped, identity_text, identities_text, grants_text, pair_text, pairs_text};
@@ -96,7 +96,7 @@ fn push_pair(text: &mut String, pair: &Pair) -> Result<(), AllocError>
     push_escaped(text, pair.value.bytes())
 }
 
-/// Adds the pairs of a verdict, each behind a space.
+/// Adds the pairs of a verdict, each after a space.
 pub fn push_pairs(text: &mut String, pairs: &[Pair]) -> Result<(), AllocError>
     ensures ok { OnOk result (string_bytes text.new ≡ string_bytes text.old ++ pairs_text pairs.now) }
 {

@@ -10,10 +10,10 @@ pub enum LineKind {
     /// The line has more than 4,096 bytes.
     #[error("TooLong")]
     TooLong,
-    /// The first word is no word that a line begins with.
+    /// The first word is not one that a line begins with.
     #[error("Word")]
     Word,
-    /// The number of words is none that the first word allows.
+    /// The number of words is not one that the first word allows.
     #[error("Count")]
     Count,
     /// A number isn't one, or is out of its range.

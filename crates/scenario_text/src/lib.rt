@@ -1,10 +1,12 @@
-//! The text of scenarios: the lines that a scenario says, and the lines that answer it.
+//! The text of scenarios: their lines, and the lines that answer them.
 //!
 //! A scenario is read line by line, and each line says one [`Step`]. Each output of the authority
 //! is one answer line.
 #![tactic(auto)]
 
 mod answer;
+#[cfg(test)]
+mod answer_tests;
 mod caller_lines;
 mod check_options;
 mod draft_lines;
@@ -12,6 +14,7 @@ mod escape;
 mod fault;
 mod first_word;
 mod lines;
+mod skipped;
 mod step;
 mod subjects;
 #[cfg(test)]
@@ -22,4 +25,5 @@ mod words;
 pub use answer::answer_text;
 pub use fault::{LineFault, LineKind};
 pub use lines::{MAX_LINE, read_line};
+pub use skipped::skipped_text;
 pub use step::Step;

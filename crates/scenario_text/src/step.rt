@@ -31,7 +31,7 @@ pub enum Step {
         identities: TextList,
     },
     /// The draft's last entry of a local authority: globs of identities and of actions, and the
-    /// results that stand.
+    /// results that are given.
     Entry {
         identities: TextList,
         actions: TextList,
@@ -77,7 +77,7 @@ pub enum Step {
     },
     /// The draft is loaded.
     Reload,
-    /// The caller's event.
+    /// The connection's event.
     Act {
         caller: u32,
         event: Event,

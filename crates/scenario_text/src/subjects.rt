@@ -11,7 +11,7 @@ use byte_pieces::pieces;
 use pk_types::{Identity, Subject, Text};
 use std::alloc::Global;
 
-/// What stands behind a front, and `None` exactly where the word has not this front.
+/// What comes after a prefix, and `None` exactly where the word does not have this prefix.
 pub fn behind<'a>(word: &'a [u8], front: &[u8]) -> Option<&'a [u8]>
     ensures rest { option_map (λ rest. rest.now) result ≡ after_front front.now word.now }
 {

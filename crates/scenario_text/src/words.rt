@@ -10,7 +10,7 @@ use byte_pieces::pieces;
 use pk_types::{ActionId, IdFault, Implicit, List, Text, TextFault, TextList, number_up_to};
 use std::alloc::Global;
 
-/// The greatest number of a caller in a scenario.
+/// The greatest number of a connection in a scenario.
 const MAX_CALLER: u32 = 1048575;
 
 /// A number up to the greatest.
@@ -97,7 +97,7 @@ pub fn some_value_word(any: &[u8], inactive: &[u8], active: &[u8]) -> Result<boo
     }
 }
 
-/// A text of bytes that are one.
+/// The text of bytes that are a valid text.
 pub fn known_text(alloc: Global, bytes: &[u8]) -> Result<Text, LineKind>
     requires { IsText bytes.now }
     ensures value { Gives result (Ok bytes.now) }

@@ -1,4 +1,4 @@
--- One more answer, or a front of it.
+-- One more answer, or a prefix of it.
 use Rattle.std.proofs.Common.{◌∷◌, [], ◌∙◌, ◌+◌, take, drop}
 use Rattle.polkit_daemon.specs.Counted.{counted}
 use Rattle.polkit_daemon.proofs.Faults.{answers_refused}

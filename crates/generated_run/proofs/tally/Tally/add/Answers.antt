@@ -1,4 +1,4 @@
--- The item's outputs and its verdicts are counted behind those before it.
+-- The item's outputs and its verdicts are counted after those before it.
 use Rattle.std.proofs.Common.{ap, ◌∙◌, sym}
 use Rattle.authority_model.specs.declared.journal.Entry.{Entry}
 use Rattle.generated_run.proofs.tally.Tally.add.Goals as goal

@@ -7,8 +7,8 @@ use Rattle.polkit_daemon.proofs.replaying.Playback.run.Goals as goal
 pub lines-init : goal.lines-init
 lines-init g c =
     let laws = g.met.I.Source g.world.𝓛 g.world.𝓜 g.world.𝓡 ((λ s x. x), (λ x. x), (λ x. x), λ x. x) in record {
-      so_far = rw c.requires.begins.number (at_first _ _ _ _ c.requires.begins.reader c.requires.begins.scenario);
-      counted = rw c.requires.begins.scenario c.requires.begins.counts;
+      so_far = rw c.requires.begins.number (at_first _ _ _ _ c.requires.begins.reader c.requires.begins.none);
+      counted = rw c.requires.begins.none c.requires.begins.counts;
       read = refl;
       wrote = refl;
       count = omega (arith, laws.budget_bound c.args.input.now, ap length c.requires.begins.reader, c.requires.begins.number);

@@ -7,7 +7,7 @@ use Rattle.polkit_daemon.proofs.replaying.Playback.run.Given as goal
 
 abbrev pub invariant-lines : goal.invariant-lines
 invariant-lines g l = record {
-  so_far : SoFar (g.I.Source.left l.fn.input) (g.I.Source.left l.input) l.self.reader l.self.scenario l.self.number (g.O.Sink.held l.fn.output) (g.O.Sink.held l.output);
+  so_far : SoFar l.fn.self.scenario (g.I.Source.left l.fn.input) (g.I.Source.left l.input) l.self.reader l.self.scenario l.self.number (g.O.Sink.held l.fn.output) (g.O.Sink.held l.output);
   counted : counted l.self.counts ≡ sent l.self.scenario.past;
   read : g.I.Source.faults l.input ≡ g.I.Source.faults l.fn.input;
   wrote : g.O.Sink.faults l.output ≡ g.O.Sink.faults l.fn.output;

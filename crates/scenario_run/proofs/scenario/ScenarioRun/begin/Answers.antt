@@ -1,6 +1,9 @@
--- Behind an entry nothing is loaded.
-use Rattle.scenario_run.proofs.Begun.{begun_stays}
+-- After an entry nothing is loaded.
+use Rattle.std.proofs.Common.{ap}
+use Rattle.scenario_run.specs.Scene.{handed_in}
+use Rattle.scenario_run.proofs.Begun.{begun_before}
 use Rattle.scenario_run.proofs.scenario.ScenarioRun.begin.Goals as goal
 
-pub returns-then-not-is_empty : goal.returns-then-not-is_empty
-returns-then-not-is_empty c = record { ok = begun_stays _ _ _ _ _ c.self.view_is c.history.ensures.same c.if-not-is_empty.ensures.empty }
+pub returns-then-not-is_empty-clause-ok : goal.returns-then-not-is_empty-clause-ok
+returns-then-not-is_empty-clause-ok c =
+    ap (handed_in c.args.self.now) (begun_before c.args.self.now c.self.inside.authority c.self.inside.draft c.self.inside.moment c.history.result.now c.self.view_is c.history.ensures.same c.if-not-is_empty.ensures.empty)
