@@ -2,6 +2,7 @@
 ghost use Rattle.std.specs.Prelude.{◌≡◌, length};
 ghost use Rattle.xml_pieces.specs.declared.fault.XmlFaultKind.TheVariants as kind;
 ghost use Rattle.xml_pieces.specs.declared.fault.Stop.TheVariants as stop;
+ghost use Rattle.xml_pieces.specs.Names.{fault_name};
 
 use pk_types::NoMemory;
 use std::alloc::{AllocError, AllocFailed};
@@ -77,6 +78,29 @@ pub fn cut_off() -> Stop
         kind: XmlFaultKind::Malformed,
         left: 0,
     })
+}
+
+impl XmlFaultKind {
+    /// The name of the kind, as this type writes it: `NotUtf8`, `Malformed`, `Mismatch`,
+    /// `Element`, `ActionId`, `DefaultWord`, `Missing`, `Repeated`, `Cdata`, `TooLong` or
+    /// `NoMemory`. Its `Display` says it in words.
+    pub fn name(self) -> &'static str
+        ensures text { result.now ≡ fault_name self }
+    {
+        match self {
+            XmlFaultKind::NotUtf8 => "NotUtf8",
+            XmlFaultKind::Malformed => "Malformed",
+            XmlFaultKind::Mismatch => "Mismatch",
+            XmlFaultKind::Element => "Element",
+            XmlFaultKind::ActionId => "ActionId",
+            XmlFaultKind::DefaultWord => "DefaultWord",
+            XmlFaultKind::Missing => "Missing",
+            XmlFaultKind::Repeated => "Repeated",
+            XmlFaultKind::Cdata => "Cdata",
+            XmlFaultKind::TooLong => "TooLong",
+            XmlFaultKind::NoMemory => "NoMemory",
+        }
+    }
 }
 
 impl Display for XmlFaultKind {

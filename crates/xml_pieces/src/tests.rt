@@ -2,6 +2,7 @@
 use super::*;
 use pk_types::{NoMemory, Text};
 use std::alloc::Global;
+use std::test::Fail;
 
 fn is_rest(read: Result<&[u8], Stop>, want: &[u8]) -> bool {
     match read {
@@ -106,4 +107,25 @@ fn keys_keep_their_places(rt: HostRuntime) {
     assert!(rt;
         pairs[1].key.bytes() == b"l".as_slice() && pairs[1].value.bytes() == b"2".as_slice()
     );
+}
+
+#[test]
+fn kinds_have_names(rt: HostRuntime) -> Result<(), Fail> {
+    let rows: [(XmlFaultKind, &str); 11] = [
+        (XmlFaultKind::NotUtf8, "NotUtf8"),
+        (XmlFaultKind::Malformed, "Malformed"),
+        (XmlFaultKind::Mismatch, "Mismatch"),
+        (XmlFaultKind::Element, "Element"),
+        (XmlFaultKind::ActionId, "ActionId"),
+        (XmlFaultKind::DefaultWord, "DefaultWord"),
+        (XmlFaultKind::Missing, "Missing"),
+        (XmlFaultKind::Repeated, "Repeated"),
+        (XmlFaultKind::Cdata, "Cdata"),
+        (XmlFaultKind::TooLong, "TooLong"),
+        (XmlFaultKind::NoMemory, "NoMemory"),
+    ];
+    for (kind, name) in rows {
+        assert!(rt; kind.name() == name, "{kind}");
+    }
+    Ok(())
 }
