@@ -1,0 +1,10 @@
+use Rattle.std.proofs.Common.{refl, arith}
+use Rattle.std.specs.Prelude.{codes}
+use Rattle.policy_turns.proofs.PlainTexts.{plain_text}
+use Rattle.policy_load.proofs.tables.groups_in.Goals as goal
+
+pub table-requires-after_bounds : goal.table-requires-after_bounds
+table-requires-after_bounds g c = λ κs lives. plain_text (codes "etc/group") refl (omega arith)
+
+pub bad_table-requires : goal.bad_table-requires
+bad_table-requires g c = plain_text (codes "etc/group") refl (omega arith)

@@ -1,0 +1,4 @@
+pub mod Sorting
+pub mod PlainTexts
+pub mod PathTexts
+pub mod Gathered
