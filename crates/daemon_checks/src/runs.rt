@@ -44,10 +44,23 @@ fn words_of(alloc: Global, words: &[&str]) -> Result<TextList, Fail> {
     Ok(list)
 }
 
-/// Runs the daemon with these words over this input, of which the first 65,536 bytes count.
+/// Runs the daemon with these words over this input, of which the first 65,536 bytes count, and over
+/// no files.
 pub fn run<R: Threads + Wait + Sync>(
     rt: &R,
     alloc: Global,
+    words: &[&str],
+    input: &[u8],
+    plan: IoPlan,
+) -> Result<Ended, Fail> {
+    run_over(rt, alloc, &mut ListTree::empty(alloc), words, input, plan)
+}
+
+/// The same over the files of a tree.
+pub fn run_over<R: Threads + Wait + Sync>(
+    rt: &R,
+    alloc: Global,
+    tree: &mut ListTree,
     words: &[&str],
     input: &[u8],
     plan: IoPlan,
@@ -70,7 +83,7 @@ pub fn run<R: Threads + Wait + Sync>(
         rt,
         alloc,
         words.as_slice(),
-        &mut ListTree::empty(alloc),
+        tree,
         &mut ListStation::new(),
         &mut source,
         &mut sink,

@@ -90,8 +90,11 @@ fn table_faults_are_told(rt: HostRuntime) -> Result<(), Fail> {
         (TableFault::TooMany { rows: 65537 }, "TooMany 65537"),
     ];
     for (fault, text) in rows {
-        let said = format!(in alloc; "{fault}")?;
-        assert_eq!(rt; said.as_str(), text);
+        let file = Text::try_from_bytes(alloc, b"etc/group")?;
+        let refused = LoadRefused::BadTable { file, fault };
+        let said = format!(in alloc; "{refused}")?;
+        let wanted = format!(in alloc; "BadTable etc/group {text}")?;
+        assert_eq!(rt; said.as_str(), wanted.as_str());
     }
     Ok(())
 }

@@ -4,7 +4,7 @@
 //! and the streams on, and tells how it ended.
 #![tactic(auto)]
 
-use pk_outside::{ListStation, ListTree, ReadSource, WriteSink};
+use pk_outside::{ListStation, ReadSource, Tree, WriteSink};
 use pk_types::{List, Text, TextFault, TextList};
 use polkit_daemon::{Status, polkitd};
 use std::process::ExitCode;
@@ -13,10 +13,12 @@ use std::sync::Wait;
 use std::thread::Threads;
 use std::{env, io};
 
-const HELP: &str = "usage: polkitd replay [--entries K]
+const HELP: &str = "usage: polkitd replay [--root DIR] [--entries K]
        polkitd load N
 
 replay  runs the scenario on standard input, and writes its answers to standard output
+        --root DIR   begins with the action files, rules, administrators, users, groups, sessions
+                     and processes below DIR, and first writes a line for each that it skips
         --entries K  the journal holds at most K entries, 1 to 1048576
 load N  runs N generated checks, 1 to 100000, and writes what they come to to standard output
 
@@ -24,8 +26,9 @@ Options, each alone:
   --help     shows this text
   --version  shows the version
 
-Exit status: 0 done, 1 usage, 3 read fault, 4 write fault, 5 the journal is full, 6 a line that is not
-in the grammar, 70 out of memory. Any but 0 is told by one line on standard error.
+Exit status: 0 done, 1 usage, 2 the files below DIR cannot be read or are refused, 3 read fault,
+4 write fault, 5 the journal is full, 6 a line that is not in the grammar, 70 out of memory. Any but 0
+is told by one line on standard error.
 ";
 
 const VERSION: &str = "polkitd 0.105.0\n";
@@ -67,9 +70,11 @@ fn told_by(words: &[Text]) -> Option<&'static str> {
 }
 
 /// Does what the words ask for.
-fn command<R: Threads + Wait + Sync + Env + Input + Print + AllocGlobal>(rt: &R) -> Status
+fn command<R, T>(rt: &R, tree: &mut T) -> Status
 where
+    R: Threads + Wait + Sync + Env + Input + Print + AllocGlobal,
     R::Reader: Send,
+    T: Tree,
 {
     let words = match words(rt) {
         Ok(words) => words,
@@ -81,7 +86,6 @@ where
             Err(_) => Status::WriteFault,
         };
     }
-    let mut tree = ListTree::empty(rt.alloc());
     let mut station = ListStation::new();
     let mut input = ReadSource::new(rt.reader());
     let mut output = WriteSink::new(io::writer(rt));
@@ -89,22 +93,22 @@ where
         rt,
         rt.alloc(),
         words.as_slice(),
-        &mut tree,
+        tree,
         &mut station,
         &mut input,
         &mut output,
     )
 }
 
-/// Runs the program, and answers its exit code. A status other than `Done` is told by one line on
-/// standard error.
-pub fn run<R: Threads + Wait + Sync + Env + Input + Print + Eprint + AllocGlobal>(
-    rt: &R,
-) -> ExitCode
+/// Runs the program over the files of a tree, and answers its exit code. A status other than
+/// `Done` is told by one line on standard error.
+pub fn run<R, T>(rt: &R, tree: &mut T) -> ExitCode
 where
+    R: Threads + Wait + Sync + Env + Input + Print + Eprint + AllocGlobal,
     R::Reader: Send,
+    T: Tree,
 {
-    let status = command(rt);
+    let status = command(rt, tree);
     if status.code() != 0 {
         let _ = eprintln!(rt; "{status}");
     }

@@ -10,7 +10,7 @@ use Rattle.authority_model.specs.declared.journal.Item.{Item}
 use Rattle.authority_model.specs.Legal.{Legal}
 use Rattle.authority_laws.proofs.Tracing.{access}
 use Rattle.scenario_text.specs.declared.fault.LineKind.TheVariants as kind
-use Rattle.scenario_run.specs.Scene.{Scene, reached}
+use Rattle.scenario_run.specs.Scene.{Scene}
 use Rattle.scenario_run.specs.Text.{text_of}
 use Rattle.polkit_daemon.specs.declared.replaying.Stopped.{Stopped}
 use Rattle.polkit_daemon.specs.declared.replaying.Stopped.TheVariants as stopped
@@ -92,7 +92,7 @@ go_on {begin = begin} {l0 = l0} {l = l} {before = before} {held = held} {pending
 }
 
 -- memory was refused before anything was read
-pub at_none : (begin : Scene) (left held : Option (List ℕ)) (ended : Bool) → Replays begin left left ended held held status.NoMemory
+pub at_none : (begin : Scene) (left held : Option (List ℕ)) (ended : Bool) → Replays [] begin left left ended held held status.NoMemory
 at_none begin left held ended = record {
   read = [];
   written = [];
@@ -106,7 +106,7 @@ at_none begin left held ended = record {
 
 -- memory was refused between two lines, or in a line before it was answered
 pub no_memory : {begin : Scene} {l0 l before held : Option (List ℕ)} {pending : List ℕ} {s : Scene} {n : ℕ} (so : SoFar begin l0 l pending s n before held) (ended : Bool) (l' held' : Option (List ℕ))
-    (got : List ℕ) → Gave l l' got → held' ≡ held → Replays begin l0 l' ended before held' status.NoMemory
+    (got : List ℕ) → Gave l l' got → held' ≡ held → Replays [] begin l0 l' ended before held' status.NoMemory
 no_memory {begin = begin} {l0 = l0} {l = l} {before = before} {pending = pending} {s = s} {n = n} so ended l' held' got g same = record {
   read = so.read ++ got;
   written = text_of s.past;
@@ -123,8 +123,8 @@ abbrev pub Partly : Scene → Bool → List ℕ → List Item → List ℕ → T
 Partly begin ended read past written = Whatever ended (IsBegun begin past) read × IsFront written (text_of past)
 
 cut_gives : (st : Status) {begin : Scene} {l0 l before held : Option (List ℕ)} {pending : List ℕ} {s : Scene} {n : ℕ} (so : SoFar begin l0 l pending s n before held) (ended : Bool) (l' held' : Option (List ℕ))
-    (got line : List ℕ) → ((read : List ℕ) (past : List Item) (written : List ℕ) → Partly begin ended read past written → Replayed begin ended read past written st)
-    → Gave l l' got → Whatever ended (Begins begin line n s) (so.read ++ got) → IsLineCutOff s line held held' → Replays begin l0 l' ended before held' st
+    (got line : List ℕ) → ((read : List ℕ) (past : List Item) (written : List ℕ) → Partly begin ended read past written → Replayed [] begin ended read past written st)
+    → Gave l l' got → Whatever ended (Begins begin line n s) (so.read ++ got) → IsLineCutOff s line held held' → Replays [] begin l0 l' ended before held' st
 cut_gives st {begin = begin} {l0 = l0} {l = l} {before = before} {held = held} {s = s} {n = n} so ended l' held' got line is g a cut = record {
   read = so.read ++ got;
   written = text_of s.past ++ cut.front.1.0;
@@ -143,7 +143,7 @@ cut_gives st {begin = begin} {l0 = l0} {l = l} {before = before} {held = held} {
 -- a line that stopped the run
 pub stopped_gives : (e : Stopped) {begin : Scene} {l0 l before held : Option (List ℕ)} {pending : List ℕ} {s : Scene} {n : ℕ} (so : SoFar begin l0 l pending s n before held) (ended : Bool) (l' held' : Option (List ℕ))
     (got line : List ℕ) (s' : Scene) → Gave l l' got → Whatever ended (Begins begin line n s) (so.read ++ got) → LineDone s line s' held held' (Err e)
-    → Replays begin l0 l' ended before held' (status_of e n)
+    → Replays [] begin l0 l' ended before held' (status_of e n)
 stopped_gives (stopped.Fault k) {begin = begin} {l0 = l0} {l = l} {before = before} {held = held} {s = s} {n = n} so ended l' held' got line s' g a done = record {
   read = so.read ++ got;
   written = text_of s.past;
@@ -177,7 +177,7 @@ stopped_gives stopped.NoMemory so ended l' held' got line s' g a (inr cut) = cut
 
 -- the run ended where the bytes ended
 pub done_end : {begin : Scene} {l0 l before held : Option (List ℕ)} {pending : List ℕ} {s : Scene} {n : ℕ} (so : SoFar begin l0 l pending s n before held) (ended : Bool) (l' : Option (List ℕ))
-    (got pending' line : List ℕ) → Gave l l' got → Takes 4096 ended (pending ++ got) pending' line line_read.End → Replays begin l0 l' ended before held status.Done
+    (got pending' line : List ℕ) → Gave l l' got → Takes 4096 ended (pending ++ got) pending' line line_read.End → Replays [] begin l0 l' ended before held status.Done
 done_end {begin = begin} {l0 = l0} {l = l} {s = s} {n = n} so ended l' got pending' line g t =
     let ran : replayed begin (so.read ++ got) ≡ ran_to s None = replayed_is so got ∙ ap (λ b. run (lines_of b) n s) t.whole in
     record {
@@ -194,7 +194,7 @@ done_end {begin = begin} {l0 = l0} {l = l} {s = s} {n = n} so ended l' got pendi
 -- the run ended after a last line
 pub done_last : {begin : Scene} {l0 l before held : Option (List ℕ)} {pending : List ℕ} {s : Scene} {n : ℕ} (so : SoFar begin l0 l pending s n before held) (ended : Bool) (l' held' : Option (List ℕ))
     (got pending' line : List ℕ) (s' : Scene) → Gave l l' got → Takes 4096 ended (pending ++ got) pending' line line_read.Last → IsLineAnswered s line s' held held'
-    → Replays begin l0 l' ended before held' status.Done
+    → Replays [] begin l0 l' ended before held' status.Done
 done_last {begin = begin} {l0 = l0} {l = l} {before = before} {held = held} {s = s} {n = n} so ended l' held' got pending' line s' g t a =
     let one : lines_of line ≡ line ∷ [] = lines_of-last line t.lacks t.some in
     let ran : replayed begin (so.read ++ got) ≡ ran_to s' None =
@@ -212,7 +212,7 @@ done_last {begin = begin} {l0 = l0} {l = l} {before = before} {held = held} {s =
 
 -- the source failed after whole lines
 pub cut_off : {begin : Scene} {l0 l before held : Option (List ℕ)} {pending : List ℕ} {s : Scene} {n : ℕ} (so : SoFar begin l0 l pending s n before held) (ended : Bool) (l' : Option (List ℕ))
-    (got pending' line : List ℕ) → Gave l l' got → Takes 4096 ended (pending ++ got) pending' line line_read.ReadFault → Replays begin l0 l' ended before held status.ReadFault
+    (got pending' line : List ℕ) → Gave l l' got → Takes 4096 ended (pending ++ got) pending' line line_read.ReadFault → Replays [] begin l0 l' ended before held status.ReadFault
 cut_off {begin = begin} {l0 = l0} {l = l} {pending = pending} {s = s} so ended l' got pending' line g t =
     let ran : replayed begin (joined so.lines) ≡ ran_to s None =
     ap (λ b. run (lines_of b) 1 begin) (sym (append-nil (joined so.lines))) ∙ ap (λ ls. run ls 1 begin) (lines_of-joined so.lines [] so.clean ∙ append-nil so.lines) ∙ so.ran in
@@ -242,7 +242,7 @@ cut_off {begin = begin} {l0 = l0} {l = l} {pending = pending} {s = s} so ended l
 -- a line over the greatest length came
 pub too_long : {begin : Scene} {l0 l before held : Option (List ℕ)} {pending : List ℕ} {s : Scene} {n : ℕ} (so : SoFar begin l0 l pending s n before held) (ended : Bool) (l' : Option (List ℕ))
     (got pending' line : List ℕ) → Gave l l' got → Takes 4096 ended (pending ++ got) pending' line line_read.TooLong
-    → Replays begin l0 l' ended before held (status_of (stopped.Fault kind.TooLong) n)
+    → Replays [] begin l0 l' ended before held (status_of (stopped.Fault kind.TooLong) n)
 too_long {begin = begin} {l0 = l0} {l = l} {s = s} {n = n} so ended l' got pending' line g t = record {
   read = so.read ++ got;
   written = text_of s.past;

@@ -71,3 +71,9 @@ pub generates_reads : {S : Type 0} (left : S → Option (List ℕ)) (faults : S 
     → Generates checks held held' s → InputFaults left faults input input s
 generates_reads left faults input checks held held' status.ReadFault run = absurd run
 generates_reads left faults input checks held held' other run = refl
+
+-- the faults of a run that began behind writes that went well
+pub outputs_later : {S : Type 0} (held : S → Option (List ℕ)) (faults : S → ℕ) (first before now : S) (s : Status) → faults before ≡ faults first
+    → OutputFaults held faults before now s → OutputFaults held faults first now s
+outputs_later held faults first before now status.WriteFault quiet writes = fails_later held faults first before now quiet writes
+outputs_later held faults first before now other quiet writes = writes ∙ quiet

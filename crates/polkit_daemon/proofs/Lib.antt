@@ -5,3 +5,5 @@ pub mod Grows
 pub mod Loading
 pub mod Runs
 pub mod Texts
+pub mod Leading
+pub mod FirstLoads

@@ -1,5 +1,7 @@
 -- The words of the daemon.
-use Rattle.std.specs.Prelude.{◌≤◌, List, [], ◌∷◌, Option, Some, None, codes, if◌then◌else◌, nat_le, option_and_then, option_map, ℕ}
+use Rattle.std.specs.Prelude.{◌≤◌, ◌==◌, ◌&&◌, Bool, not, List, [], ◌∷◌, length, Option, Some, None, codes, if◌then◌else◌, nat_eq, nat_le, option_and_then, option_map, ℕ}
+use Rattle.std.specs.List.{ends_with}
+use Rattle.std.specs.Option.{option_copied}
 use Rattle.std.specs.Str.{bytes_eq}
 use Rattle.pk_types.specs.Decimals.{decimal_up_to}
 use Rattle.authority_model.specs.declared.journal.Limits.{Limits}
@@ -7,6 +9,16 @@ use Rattle.authority_model.specs.declared.journal.TheConstants.{MAX_BYTES, MAX_E
 use Rattle.polkit_daemon.specs.declared.command.Command.{Command}
 use Rattle.polkit_daemon.specs.declared.command.Command.TheVariants as command
 use Rattle.polkit_daemon.specs.declared.command.TheConstants.{MAX_CHECKS}
+
+-- A command: a replay with its root and its limit of entries, or a generated run of so many checks.
+pub data Named : Type 0 where
+  Replay : Option (List ℕ) → ℕ → Named
+  Load : ℕ → Named
+
+-- the command that the code tells
+abbrev pub command_seen : Command → Named
+command_seen (command.Replay root entries) = Named.Replay (option_copied root) entries
+command_seen (command.Load checks) = Named.Load checks
 
 -- a number above 0
 abbrev pub positive : ℕ → Option ℕ
@@ -22,23 +34,32 @@ entries_in [] = Some MAX_ENTRIES
 entries_in (option ∷ number ∷ []) = if bytes_eq option (codes "--entries") then positive_up_to MAX_ENTRIES number else None
 entries_in other = None
 
+-- whether a path may be a root: it is not empty and does not end in `/`
+abbrev pub is_root : List ℕ → Bool
+is_root path = not (length path == 0) && not (ends_with nat_eq path (codes "/"))
+
+-- the replay from this root, with a limit of entries
+abbrev pub rooted : List ℕ → Option ℕ → Option Named
+rooted root entries = if is_root root then option_map (Named.Replay (Some root)) entries else None
+
 -- the replay that the words after `replay` name
-abbrev pub replay_in : List (List ℕ) → Option Command
-replay_in words = option_map command.Replay (entries_in words)
+abbrev pub replay_in : List (List ℕ) → Option Named
+replay_in (option ∷ root ∷ words) = if bytes_eq option (codes "--root") then rooted root (entries_in words) else option_map (Named.Replay None) (entries_in (option ∷ root ∷ words))
+replay_in words = option_map (Named.Replay None) (entries_in words)
 
 -- the generated run that the words after `load` name
-abbrev pub load_in : List (List ℕ) → Option Command
-load_in (number ∷ []) = option_map command.Load (positive_up_to MAX_CHECKS number)
+abbrev pub load_in : List (List ℕ) → Option Named
+load_in (number ∷ []) = option_map Named.Load (positive_up_to MAX_CHECKS number)
 load_in other = None
 
 -- the command that the words name, where they are in the grammar
-abbrev pub command_of : List (List ℕ) → Option Command
+abbrev pub command_of : List (List ℕ) → Option Named
 command_of [] = None
 command_of (word ∷ words) = if bytes_eq word (codes "replay") then replay_in words else (if bytes_eq word (codes "load") then load_in words else None)
 
 -- the numbers of a command are in their ranges
 abbrev pub IsInRange : Command → Type 0
-IsInRange (command.Replay entries) = (1 ≤ entries) × (entries ≤ MAX_ENTRIES)
+IsInRange (command.Replay root entries) = (1 ≤ entries) × (entries ≤ MAX_ENTRIES)
 IsInRange (command.Load checks) = (1 ≤ checks) × (checks ≤ MAX_CHECKS)
 
 -- the limits of a journal of so many entries

@@ -6,3 +6,4 @@ pub mod Generate
 pub mod Lines
 pub mod Playing
 pub mod Replay
+pub mod Rooted

@@ -85,19 +85,19 @@ Halts begin past halt bytes = (halt_of begin bytes ≡ Some halt) × (replay_his
 abbrev pub IsBegun : Scene → List Item → List ℕ → Type 0
 IsBegun begin past bytes = Extends (replay_history begin bytes) past
 
--- What the bytes read made, and what of its text was written, at each status of a replay.
-abbrev pub Replayed : Scene → Bool → List ℕ → List Item → List ℕ → Status → Type 0
-Replayed begin ended read past written status.Done =
-    IsTrue ended × (halt_of begin read ≡ None) × (replay_history begin read ≡ past) × (written ≡ text_of past)
-Replayed begin ended read past written (status.BadLine line kind) = Whatever ended (Halts begin past (Halt.Fault line kind)) read × (written ≡ text_of past)
-Replayed begin ended read past written (status.JournalFull entries bytes) = Whatever ended (Halts begin past (Halt.Full (record { entries = entries; bytes = bytes }))) read × (written ≡ text_of past)
-Replayed begin ended read past written status.ReadFault = IsCutOff begin read past × (written ≡ text_of past)
-Replayed begin ended read past written status.WriteFault = Whatever ended (IsBegun begin past) read × IsFront written (text_of past)
-Replayed begin ended read past written status.NoMemory = Whatever ended (IsBegun begin past) read × IsFront written (text_of past)
-Replayed begin ended read past written other = ⊥
+-- What the bytes read made, and what of its text was written after these first bytes, at each status of a replay.
+abbrev pub Replayed : List ℕ → Scene → Bool → List ℕ → List Item → List ℕ → Status → Type 0
+Replayed lead begin ended read past written status.Done =
+    IsTrue ended × (halt_of begin read ≡ None) × (replay_history begin read ≡ past) × (written ≡ lead ++ text_of past)
+Replayed lead begin ended read past written (status.BadLine line kind) = Whatever ended (Halts begin past (Halt.Fault line kind)) read × (written ≡ lead ++ text_of past)
+Replayed lead begin ended read past written (status.JournalFull entries bytes) = Whatever ended (Halts begin past (Halt.Full (record { entries = entries; bytes = bytes }))) read × (written ≡ lead ++ text_of past)
+Replayed lead begin ended read past written status.ReadFault = IsCutOff begin read past × (written ≡ lead ++ text_of past)
+Replayed lead begin ended read past written status.WriteFault = Whatever ended (IsBegun begin past) read × IsFront written (lead ++ text_of past)
+Replayed lead begin ended read past written status.NoMemory = Whatever ended (IsBegun begin past) read × IsFront written (lead ++ text_of past)
+Replayed lead begin ended read past written other = ⊥
 
--- The replay run from where it begins: some bytes were read and some written, and a legal history, in which each yes is licensed and whose text was written as far as the status says, is that of the bytes read.
-pub record Replays (begin : Scene) (left_before left : Option (List ℕ)) (ended : Bool) (held_before held : Option (List ℕ)) (status : Status) : Type 0 where
+-- The replay run from where it begins: some bytes were read and some written, and a legal history, in which each yes is licensed and whose text was written after the first bytes as far as the status says, is that of the bytes read.
+pub record Replays (lead : List ℕ) (begin : Scene) (left_before left : Option (List ℕ)) (ended : Bool) (held_before held : Option (List ℕ)) (status : Status) : Type 0 where
   pub read : List ℕ
   pub written : List ℕ
   pub past : List Item
@@ -105,4 +105,4 @@ pub record Replays (begin : Scene) (left_before left : Option (List ℕ)) (ended
   pub got : Got held_before held written
   pub legal : Legal past
   pub licensed : AllLicensed past
-  pub run : Replayed begin ended read past written status
+  pub run : Replayed lead begin ended read past written status

@@ -1,6 +1,7 @@
 // The command line of the daemon.
 ghost use Rattle.std.specs.Prelude.{◌≡◌, ◌≤◌, IfSome};
-ghost use Rattle.polkit_daemon.specs.Commands.{command_of, entries_in, load_in, positive_up_to, replay_in, IsInRange};
+ghost use Rattle.std.specs.Option.{option_copied, option_map};
+ghost use Rattle.polkit_daemon.specs.Commands.{command_of, command_seen, entries_in, is_root, load_in, positive_up_to, replay_in, IsInRange};
 
 use authority_model::MAX_ENTRIES;
 use pk_types::{Text, number_up_to};
@@ -9,13 +10,19 @@ use pk_types::{Text, number_up_to};
 const MAX_CHECKS: u64 = 100_000;
 
 /// A command of the daemon.
-#[derive(Clone, Copy, Debug, PartialEq, Eq)]
-pub enum Command {
-    /// `replay [--entries K]`: runs the scenario on the input, with a journal of at most so many
-    /// entries, from 1 to 1,048,576, which it is without the option.
-    Replay { entries: u64 },
-    /// `load N`: runs so many generated checks, from 1 to 100,000, and writes their totals.
-    Load { checks: u32 },
+#[derive(Clone, Copy)]
+pub enum Command<'a> {
+    /// `replay [--root DIR] [--entries K]`: runs the scenario on the input. It begins with what the
+    /// tree below the root gives, and has a journal of at most so many entries, from 1 to 1,048,576;
+    /// without the option of that many.
+    Replay {
+        root: Option<&'a Text>,
+        entries: u64,
+    },
+    /// `load N`: runs so many generated checks, from 1 to 100,000, and writes what they come to.
+    Load {
+        checks: u32,
+    },
 }
 
 /// A number from 1 to the greatest one.
@@ -42,17 +49,42 @@ fn entries_in(words: &[Text]) -> Option<u64>
     }
 }
 
-/// The replay that the words after `replay` name.
-fn replay_in(words: &[Text]) -> Option<Command>
-    ensures command { result ≡ replay_in words.now }
+/// Whether a path may be a root: it is not empty and does not end in `/`.
+fn is_root(path: &Text) -> bool
+    ensures root { result ≡ is_root path.now }
 {
-    let entries = entries_in(words)?;
-    Some(Command::Replay { entries })
+    let path = path.bytes();
+    !path.is_empty() && !path.ends_with(b"/")
+}
+
+/// The replay that the words after `replay` name.
+fn replay_in(words: &[Text]) -> Option<Command<'_>>
+    ensures command { option_map command_seen result ≡ replay_in words.now }
+{
+    match words {
+        [option, root, rest @ ..] if option.bytes() == b"--root".as_slice() => {
+            if !is_root(root) {
+                return None;
+            }
+            let entries = entries_in(rest)?;
+            Some(Command::Replay {
+                root: Some(root),
+                entries,
+            })
+        }
+        _ => {
+            let entries = entries_in(words)?;
+            Some(Command::Replay {
+                root: None,
+                entries,
+            })
+        }
+    }
 }
 
 /// The generated run that the words after `load` name.
-fn load_in(words: &[Text]) -> Option<Command>
-    ensures command { result ≡ load_in words.now }
+fn load_in(words: &[Text]) -> Option<Command<'_>>
+    ensures command { option_map command_seen result ≡ load_in words.now }
 {
     match words {
         [number] => {
@@ -65,10 +97,10 @@ fn load_in(words: &[Text]) -> Option<Command>
     }
 }
 
-impl Command {
+impl Command<'_> {
     /// The command that the words name, and `None` exactly where they are not in the grammar.
-    pub fn read(words: &[Text]) -> Option<Command>
-        ensures command { result ≡ command_of words.now }
+    pub fn read(words: &[Text]) -> Option<Command<'_>>
+        ensures command { option_map command_seen result ≡ command_of words.now }
         ensures range { IfSome result IsInRange }
     {
         let (word, rest) = words.split_first()?;

@@ -3,8 +3,8 @@
 
 mod command;
 mod generating;
-mod refused;
 mod replaying;
+mod rooted;
 mod status;
 mod top;
 mod written;
@@ -12,8 +12,9 @@ mod written;
 pub use command::Command;
 pub use dbus_values::FaultKind;
 pub use generating::load_run;
-pub use refused::{LoadLimit, LoadRefused, TableFault};
-pub use replaying::replay;
+pub use policy_load::{LoadLimit, LoadRefused};
+pub use rooted::replay;
 pub use scenario_text::LineKind;
 pub use status::Status;
+pub use table_files::TableFault;
 pub use top::polkitd;

@@ -1,5 +1,5 @@
 // The command that replays a scenario.
-ghost use Rattle.std.specs.Prelude.{◌≡◌, ◌≤◌, IsNone, IfOk, OnOk};
+ghost use Rattle.std.specs.Prelude.{◌≡◌, ◌≤◌, [], IfOk, OnOk};
 ghost use Rattle.authority_model.specs.Items.{empty_loaded, sent};
 ghost use Rattle.authority_model.specs.Legal.{Legal};
 ghost use Rattle.polkit_daemon.specs.Counted.{counted};
@@ -113,7 +113,7 @@ fn answer<O: Sink>(
 
 /// A replay under way.
 #[derive(Drop)]
-struct Playback {
+pub struct Playback {
     alloc: Global,
     reader: LineReader,
     scenario: ScenarioRun,
@@ -125,7 +125,7 @@ struct Playback {
 
 impl Playback {
     /// A replay that has read nothing, and begins with this draft.
-    fn start(alloc: Global, limits: Limits, draft: Loaded) -> Result<Playback, NoMemory>
+    pub fn start(alloc: Global, limits: Limits, draft: Loaded) -> Result<Playback, NoMemory>
         requires limits { AreAllowed limits }
         ensures begins { IfOk result Begins }
         ensures scenario { IfOk result (λ playback. playback.scenario ≡ start limits draft) }
@@ -143,9 +143,9 @@ impl Playback {
     }
 
     /// Runs the lines of the input, until it ends or the first fault comes.
-    fn run<I: Source, O: Sink>(&mut self, input: &mut I, output: &mut O) -> Status
+    pub fn run<I: Source, O: Sink>(&mut self, input: &mut I, output: &mut O) -> Status
         requires begins { Begins self.old }
-        ensures run { Replays self.old.scenario (I.left input.old) (I.left input.new) (I.ended input.new) (O.held output.old) (O.held output.new) result }
+        ensures run { Replays [] self.old.scenario (I.left input.old) (I.left input.new) (I.ended input.new) (O.held output.old) (O.held output.new) result }
         ensures read { InputFaults I.left I.faults input.old input.new result }
         ensures write { OutputFaults O.held O.faults output.old output.new result }
     {
@@ -180,41 +180,5 @@ impl Playback {
                 LineRead::NoMemory => return Status::NoMemory,
             }
         }
-    }
-}
-
-/// Runs the scenario that the input gives, and writes its answer lines.
-///
-/// The lines are run one after another, until the input ends or the first fault comes; what was
-/// answered before a fault stays written. The tree is not read.
-///
-/// # Errors
-/// `BadLine` only where that line has that first fault and the lines before it have none;
-/// `JournalFull` exactly where a further entry was due and the journal had reached its limit of entries
-/// or of counted bytes;
-/// `ReadFault` and `WriteFault` exactly where the input or the output counted a fault, which its last
-/// call did; `NoMemory`, which may come in place of any other answer.
-pub fn replay<T: Tree, I: Source, O: Sink>(
-    alloc: Global,
-    root: Option<&Text>,
-    limits: Limits,
-    _tree: &mut T,
-    input: &mut I,
-    output: &mut O,
-) -> Status
-    requires root { IsNone root }
-    requires limits { AreAllowed limits }
-
-    // What is written is the text of the legal history that the bytes read make, as far as the
-    // status says.
-    ensures run { Replays (start limits empty_loaded) (I.left input.old) (I.left input.new) (I.ended input.new) (O.held output.old) (O.held output.new) result }
-
-    // A fault of the outside is told exactly where the object counted it, by its last call.
-    ensures read { InputFaults I.left I.faults input.old input.new result }
-    ensures write { OutputFaults O.held O.faults output.old output.new result }
-{
-    match Playback::start(alloc, limits, Loaded::empty(alloc)) {
-        Ok(mut playback) => playback.run(input, output),
-        Err(NoMemory) => Status::NoMemory,
     }
 }

@@ -2,8 +2,8 @@
 ghost use Rattle.std.specs.Prelude.{◌≡◌};
 ghost use Rattle.polkit_daemon.specs.Codes.{code_of};
 
-use crate::refused::LoadRefused;
 use dbus_values::FaultKind;
+use policy_load::LoadRefused;
 use scenario_text::LineKind;
 use std::fmt;
 

@@ -1,15 +1,13 @@
 // The top call: the command that the words name.
-ghost use Rattle.std.specs.Prelude.{◌≡◌, ◌↔◌, None, Some, ℕ};
-ghost use Rattle.authority_model.specs.Items.{empty_loaded};
-ghost use Rattle.scenario_run.specs.Scene.{start};
-ghost use Rattle.polkit_daemon.specs.Commands.{command_of, limits_of};
+ghost use Rattle.std.specs.Prelude.{◌≡◌, ◌↔◌, None, Some, Option, List, ℕ};
+ghost use Rattle.polkit_daemon.specs.Commands.{Named, command_of, limits_of};
 ghost use Rattle.polkit_daemon.specs.Faults.{InputFaults, OutputFaults};
 ghost use Rattle.polkit_daemon.specs.Generate.{Generates};
-ghost use Rattle.polkit_daemon.specs.Replay.{Replays};
+ghost use Rattle.polkit_daemon.specs.Rooted.{ReplaysFrom};
 
 use crate::command::Command;
 use crate::generating::load_run;
-use crate::replaying::replay;
+use crate::rooted::replay;
 use crate::status::Status;
 use authority_model::{Limits, MAX_BYTES};
 use pk_outside::{Sink, Source, Station, Tree};
@@ -36,27 +34,27 @@ pub fn polkitd<R: Threads + Wait + Sync, T: Tree, N: Station, I: Source, O: Sink
     ensures unread { result ≡ Status.Usage → I.left input.new ≡ I.left input.old }
     ensures unwritten { result ≡ Status.Usage → O.held output.new ≡ O.held output.old }
 
-    // A replay writes the text of the legal history that the bytes read make, as far as the status
-    // says.
-    ensures replay { (entries : ℕ) → command_of words.now ≡ Some (Command.Replay entries) →
-        Replays (start (limits_of entries) empty_loaded) (I.left input.old) (I.left input.new) (I.ended input.new) (O.held output.old) (O.held output.new) result }
+    // A replay writes what the first load skipped, and the text of the legal history that the bytes
+    // read make, as far as the status says.
+    ensures replay { (root : Option (List ℕ)) (entries : ℕ) → command_of words.now ≡ Some (Named.Replay root entries) →
+        ReplaysFrom (T.told tree.old) root (limits_of entries) (T.faults tree.old) (T.faults tree.new) (I.left input.old) (I.left input.new) (I.ended input.new) (O.held output.old) (O.held output.new) result }
 
     // A generated run writes its one line, as far as the status says, and reads nothing.
-    ensures load { (checks : ℕ) → command_of words.now ≡ Some (Command.Load checks) →
+    ensures load { (checks : ℕ) → command_of words.now ≡ Some (Named.Load checks) →
         Generates checks (O.held output.old) (O.held output.new) result }
-    ensures load_unread { (checks : ℕ) → command_of words.now ≡ Some (Command.Load checks) → I.left input.new ≡ I.left input.old }
+    ensures load_unread { (checks : ℕ) → command_of words.now ≡ Some (Named.Load checks) → I.left input.new ≡ I.left input.old }
 
     // A fault of the outside is told exactly where the object counted it, by its last call.
     ensures read { InputFaults I.left I.faults input.old input.new result }
     ensures write { OutputFaults O.held O.faults output.old output.new result }
 {
     match Command::read(words) {
-        Some(Command::Replay { entries }) => {
+        Some(Command::Replay { root, entries }) => {
             let limits = Limits {
                 entries,
                 bytes: MAX_BYTES,
             };
-            replay(alloc, None, limits, tree, input, output)
+            replay(alloc, root, limits, tree, input, output)
         }
         Some(Command::Load { checks }) => load_run(alloc, checks, output),
         None => Status::Usage,

@@ -1,8 +1,10 @@
 //! The program `polkitd`.
 #![tactic(auto)]
 
+use pk_outside::DirTree;
 use std::process::ExitCode;
 
 fn main(rt: HostRuntime) -> ExitCode {
-    daemon_program::run(&rt)
+    let mut tree = DirTree::new(&rt);
+    daemon_program::run(&rt, &mut tree)
 }
