@@ -1,0 +1,13 @@
+pub mod Building
+pub mod Signatures
+pub mod Plain
+pub mod Told
+pub mod Causes
+pub mod Sent
+pub mod Bounds
+pub mod Sending
+pub mod Returned
+pub mod Types
+pub mod Sizes
+pub mod Choices
+pub mod Shown

@@ -1,0 +1,6 @@
+use Rattle.std.proofs.Common.{false, arith}
+use Rattle.authority_messages.proofs.Building.{add_ok, uint32_built}
+use Rattle.authority_messages.proofs.values.add_uint32.Goals as goal
+
+pub returns : goal.returns
+returns c = record { ok = add_ok _ _ _ _ _ c.add.result (uint32_built false c.args.n (omega arith)) c.add.ensures.ok }

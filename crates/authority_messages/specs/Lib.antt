@@ -1,0 +1,5 @@
+pub mod Plain
+pub mod Values
+pub mod Outgoing
+pub mod Built
+pub mod Messages
