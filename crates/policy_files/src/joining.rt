@@ -82,9 +82,9 @@ impl Joining {
         alloc: Global,
         path: &Text,
         at: u64,
-        action: &Action,
+        action: Action,
     ) -> Result<Self, NoMemory>
-        ensures joined { IfOk result (λ more. joined_of more ≡ with_action path.now at action.now (joined_of self)) }
+        ensures joined { IfOk result (λ more. joined_of more ≡ with_action path.now at action (joined_of self)) }
     {
         if self.actions.has(action.id.bytes()) {
             let again = report(alloc, path, b"Again", at)?;
@@ -96,7 +96,7 @@ impl Joining {
             admins,
             faults,
         } = self;
-        let actions = actions.with_new(alloc, action.try_copy()?)?;
+        let actions = actions.with_new(alloc, action)?;
         Ok(Joining {
             actions,
             entries,
@@ -106,11 +106,11 @@ impl Joining {
     }
 
     /// The actions of a file.
-    fn with_actions(self, alloc: Global, path: &Text, actions: &[Action]) -> Result<Self, NoMemory>
-        ensures joined { IfOk result (λ more. joined_of more ≡ with_actions path.now 0 actions.now (joined_of self)) }
+    fn with_actions(self, alloc: Global, path: &Text, actions: ActionList) -> Result<Self, NoMemory>
+        ensures joined { IfOk result (λ more. joined_of more ≡ with_actions path.now 0 actions (joined_of self)) }
     {
         let mut joining = self;
-        for (at, action) in actions.iter().enumerate() {
+        for (at, action) in actions.into_vec().into_iter().enumerate() {
             joining = joining.with_action(alloc, path, at as u64, action)?;
         }
         Ok(joining)
@@ -152,11 +152,7 @@ impl Joining {
         match finding {
             Finding::Nothing => Ok(self),
             Finding::Skipped(fault) => self.with_fault(fault),
-            Finding::Actions { path, actions } => self.with_actions(
-                alloc,
-                &path,
-                actions.as_slice(),
-            ),
+            Finding::Actions { path, actions } => self.with_actions(alloc, &path, actions),
             Finding::Admins(groups) => self.with_admins(groups),
             Finding::Entries(entries) => self.with_entries(entries),
         }
