@@ -14,7 +14,7 @@ mod methods;
 mod pairs;
 mod subjects;
 
-pub use event::event_of;
+pub use event::{ERROR, METHOD_CALL, METHOD_RETURN, NO_REPLY_EXPECTED, event_of};
 pub use methods::{AUTHORITY, AUTHORITY_PATH, Method, MethodRow, PROFILE, method_named};
 
 #[cfg(test)]

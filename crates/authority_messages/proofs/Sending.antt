@@ -9,7 +9,8 @@ use Rattle.dbus_values.specs.Form.{Field}
 use Rattle.authority_model.specs.declared.verdict.Cookie.{Cookie}
 use Rattle.authority_model.specs.Cookies.{cookie_text}
 use Rattle.authority_model.specs.Words.{Bytes}
-use Rattle.authority_messages.specs.declared.calls.TheConstants.{AUTHORITY, AUTHORITY_PATH, AGENT}
+use Rattle.authority_calls.specs.declared.methods.TheConstants.{AUTHORITY, AUTHORITY_PATH}
+use Rattle.authority_messages.specs.declared.calls.TheConstants.{AGENT}
 use Rattle.authority_messages.specs.declared.replies.TheConstants.{LIMITS_EXCEEDED, TOO_LONG}
 use Rattle.authority_messages.specs.Values.{string, pairs, array, row}
 use Rattle.authority_messages.specs.Outgoing.{under, call_at, MayBeSent, IsSent}

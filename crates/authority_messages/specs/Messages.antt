@@ -17,8 +17,10 @@ use Rattle.authority_model.specs.Causes.{error_name, error_text}
 use Rattle.authority_model.specs.Cookies.{cookie_text}
 use Rattle.authority_model.specs.Reasons.{reason_text}
 use Rattle.authority_model.specs.Words.{Bytes}
-use Rattle.authority_messages.specs.declared.outgoing.TheConstants.{NO_REPLY_EXPECTED, MAX_MESSAGE}
-use Rattle.authority_messages.specs.declared.calls.TheConstants.{AUTHORITY, AUTHORITY_PATH, AGENT}
+use Rattle.authority_calls.specs.declared.event.TheConstants.{NO_REPLY_EXPECTED}
+use Rattle.authority_calls.specs.declared.methods.TheConstants.{AUTHORITY, AUTHORITY_PATH}
+use Rattle.authority_messages.specs.declared.outgoing.TheConstants.{MAX_MESSAGE}
+use Rattle.authority_messages.specs.declared.calls.TheConstants.{AGENT}
 use Rattle.authority_messages.specs.declared.replies.TheConstants.{LIMITS_EXCEEDED, TOO_LONG}
 use Rattle.authority_messages.specs.Values.{string, array, pairs, identity, authorization_result, description, authorization}
 use Rattle.authority_messages.specs.Outgoing.{Outgoing, under, return_to, error_to, call_at, signal_of, nothing}

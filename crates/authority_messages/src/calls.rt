@@ -10,21 +10,16 @@ ghost use Rattle.authority_messages.specs.Messages.{agent_path as path_of_agent,
 
 use crate::containers::array;
 use crate::limits::is_over;
-use crate::outgoing::{Member, NO_REPLY_EXPECTED, call_at, signal_of};
+use crate::outgoing::{Member, call_at, signal_of};
 use crate::pairs::pairs;
 use crate::subjects::identity_items;
 use crate::texts::{cookie_text, plain};
 use crate::values::{add, add_bytes, add_string, no_values};
+use authority_calls::{AUTHORITY, AUTHORITY_PATH, NO_REPLY_EXPECTED};
 use authority_model::Cookie;
 use dbus_values::{Value, ValueList, WireOut, is_path};
 use pk_types::{Identity, NoMemory, Pair, Text};
 use std::alloc::Global;
-
-/// The object path of the authority.
-pub const AUTHORITY_PATH: &str = "/org/freedesktop/PolicyKit1/Authority";
-
-/// The authority's interface of the reference manual.
-pub const AUTHORITY: &str = "org.freedesktop.PolicyKit1.Authority";
 
 /// The agents' interface of the reference manual.
 pub const AGENT: &str = "org.freedesktop.PolicyKit1.AuthenticationAgent";

@@ -5,26 +5,15 @@ ghost use Rattle.authority_messages.specs.Outgoing.{outgoing, return_to as retur
 ghost use Rattle.authority_messages.specs.Values.{string};
 ghost use Rattle.authority_messages.specs.Built.{Rows};
 
+use authority_calls::{ERROR, METHOD_CALL, METHOD_RETURN, NO_REPLY_EXPECTED};
 use dbus_values::{HeaderOut, ValueList, WireOut};
 use pk_types::Text;
 
 /// The type of no message (the D-Bus Specification, "Message Format").
 pub const INVALID: u8 = 0;
 
-/// The message type of a call.
-pub const METHOD_CALL: u8 = 1;
-
-/// The message type of a return.
-pub const METHOD_RETURN: u8 = 2;
-
-/// The message type of an error.
-pub const ERROR: u8 = 3;
-
 /// The message type of a signal.
 pub const SIGNAL: u8 = 4;
-
-/// The flag of a message to which no reply is expected.
-pub const NO_REPLY_EXPECTED: u8 = 1;
 
 /// The greatest number of bytes of a message that is sent.
 pub const MAX_MESSAGE: u64 = 16_777_216;

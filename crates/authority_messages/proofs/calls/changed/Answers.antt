@@ -1,7 +1,7 @@
 use Rattle.std.proofs.Common.{◌≡◌, ℕ, List, ap, sym, subst, ◌∙◌}
 use Rattle.authority_messages.specs.Outgoing.{outgoing, signal_of, IsSent}
 use Rattle.authority_messages.specs.Messages.{changed}
-use Rattle.authority_messages.specs.declared.calls.TheConstants.{AUTHORITY, AUTHORITY_PATH}
+use Rattle.authority_calls.specs.declared.methods.TheConstants.{AUTHORITY, AUTHORITY_PATH}
 use Rattle.authority_messages.proofs.Sending.{changed_sent}
 use Rattle.authority_messages.proofs.calls.changed.Goals as goal
 
