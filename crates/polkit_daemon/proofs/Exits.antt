@@ -17,7 +17,7 @@ use Rattle.polkit_daemon.specs.declared.replaying.Stopped.TheVariants as stopped
 use Rattle.polkit_daemon.specs.declared.status.Status.{Status}
 use Rattle.polkit_daemon.specs.declared.status.Status.TheVariants as status
 use Rattle.polkit_daemon.specs.Lines.{IsLineCutOff, IsLineAnswered, LineDone, status_of}
-use Rattle.polkit_daemon.specs.Replay.{run, replayed, replay_history, Whatever, IsBegun, IsFront, Halt, Halts, Replayed, Replays}
+use Rattle.polkit_daemon.specs.Replay.{run, replayed, Whatever, IsBegun, IsFront, Halt, Halts, Replayed, Replays}
 use Rattle.polkit_daemon.proofs.Runs.{Clean, joined, ran_to, run-append, run-one, lines_of-joined, joined-one, clean_one, history_at, halt_at, extends_at, next_extends, has_fault, is_filled, Begins, whatever_map, too_long_at}
 
 -- At each turn these bytes were read, and of them the lines so far ran without a fault and were answered.
@@ -89,19 +89,6 @@ go_on {begin = begin} {l0 = l0} {l = l} {before = before} {held = held} {pending
   number = omega (arith, so.number, length-append so.lines (line ∷ []));
   legal = a.legal;
   written = rw a.text (Got-more before held held' (text_of s.past) a.added so.written a.written);
-}
-
--- memory was refused before anything was read
-pub at_none : (begin : Scene) (left held : Option (List ℕ)) (ended : Bool) → Replays [] begin left left ended held held status.NoMemory
-at_none begin left held ended = record {
-  read = [];
-  written = [];
-  past = [];
-  gave = Gave-none left;
-  got = Got-none held;
-  legal = tt;
-  licensed = tt;
-  run = (inr (λ more. (replay_history begin more, sym (append-nil (replay_history begin more)))), ([], refl));
 }
 
 -- memory was refused between two lines, or in a line before it was answered

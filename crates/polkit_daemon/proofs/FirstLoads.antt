@@ -14,7 +14,7 @@ untouched left held = record { unread = refl; unwritten = refl }
 -- a first load that is refused ends the run, with nothing read and nothing written
 stops : (told : Option TreeTold) (root : Option (List ℕ)) (limits : Limits) (before now : ℕ) (left held : Option (List ℕ)) (ended : Bool) (why : LoadRefused)
     → IsFirstStop told root before now why → ReplaysFrom told root limits before now left left ended held held (refused_status why)
-stops told root limits before now left held ended (refused.TreeFault count) stop = (untouched left held, stop.0, stop.1)
+stops told root limits before now left held ended (refused.TreeFault count) stop = (untouched left held, stop.0, stop.1, stop.2)
 stops told root limits before now left held ended refused.NoMemory stop = inl (untouched left held)
 stops told root limits before now left held ended (refused.Limit which count) stop = (untouched left held, stop)
 stops told root limits before now left held ended (refused.BadTable file fault) stop = (untouched left held, stop)

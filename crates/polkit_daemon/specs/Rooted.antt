@@ -1,5 +1,5 @@
 -- A replay from a root: its first load, and the run that begins with it.
-use Rattle.std.specs.Prelude.{◌≡◌, ◌⊎◌, ℕ, Bool, List, Option, None, Some, Ok, Err, IfSome}
+use Rattle.std.specs.Prelude.{◌≡◌, ◌⊎◌, ℕ, Bool, List, Option, None, Some, Ok, Err, IfSome, IsSome}
 use Rattle.pk_outside.specs.Causes.{Rose}
 use Rattle.pk_outside.specs.Trees.{TreeTold}
 use Rattle.authority_model.specs.declared.journal.Limits.{Limits}
@@ -32,7 +32,7 @@ refused_status other = status.LoadRefused other
 
 -- why a first load is refused: the tree counted a fault, or it is due; want of memory is free
 abbrev pub IsFirstStop : Option TreeTold → Option (List ℕ) → ℕ → ℕ → LoadRefused → Type 0
-IsFirstStop told root before now (refused.TreeFault count) = (count ≡ now) × Rose before now
+IsFirstStop told root before now (refused.TreeFault count) = IsSome root × (count ≡ now) × Rose before now
 IsFirstStop told root before now refused.NoMemory = Unit {0}
 IsFirstStop told root before now other = IsFirstRefused told root other
 
@@ -49,7 +49,7 @@ pub record IsUntouched (left_before left held_before held : Option (List ℕ)) :
 
 -- A replay from a root, by its status. The faults are those that the tree counted, before and after. Memory may be refused before the first draft is known.
 abbrev pub ReplaysFrom : Option TreeTold → Option (List ℕ) → Limits → ℕ → ℕ → Option (List ℕ) → Option (List ℕ) → Bool → Option (List ℕ) → Option (List ℕ) → Status → Type 0
-ReplaysFrom told root limits before now left_before left ended held_before held (status.TreeFault count) = IsUntouched left_before left held_before held × (count ≡ now) × Rose before now
+ReplaysFrom told root limits before now left_before left ended held_before held (status.TreeFault count) = IsUntouched left_before left held_before held × IsSome root × (count ≡ now) × Rose before now
 ReplaysFrom told root limits before now left_before left ended held_before held (status.LoadRefused refused) = IsUntouched left_before left held_before held × IsFirstRefused told root refused
 ReplaysFrom told root limits before now left_before left ended held_before held status.NoMemory =
     IsUntouched left_before left held_before held ⊎ RunsFirst told root limits left_before left ended held_before held status.NoMemory
