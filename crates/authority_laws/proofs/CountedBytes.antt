@@ -27,7 +27,7 @@ outputs_cost (o ∷ outputs) =
     omega (arith, first, rest)
 
 -- an entry costs at least 64, and 64 for each of its outputs
-entry_costs : (e : Entry) → cost_of_entry e < 2 ^ 62 → 64 + 64 * length e.outputs ≤ cost_of_entry e
+pub entry_costs : (e : Entry) → cost_of_entry e < 2 ^ 62 → 64 + 64 * length e.outputs ≤ cost_of_entry e
 entry_costs e below =
     let whole = uncapped (64 + cost_of_event e.event + sum_by cost_of_output e.outputs) below in
     let outputs = outputs_cost e.outputs in

@@ -1,5 +1,5 @@
 -- A journal is full exactly where its items are.
-use Rattle.std.proofs.Common.{refl, ◌≡◌, ◌≤◌, Bool, true, false, ◌||◌, ◌⊎◌, inl, inr, sym, ◌∙◌, ap, subst, length, arith}
+use Rattle.std.proofs.Common.{refl, ◌≡◌, Bool, true, false, ◌||◌, ◌⊎◌, inl, inr, sym, length, arith}
 use Rattle.std.specs.Prelude.{nat_le, ◌↔◌}
 use Rattle.std.proofs.lemmas.Bool.Decides.{nat_tests}
 use Rattle.authority_model.specs.declared.journal.History.{History}

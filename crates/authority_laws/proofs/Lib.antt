@@ -27,3 +27,7 @@ pub mod GreatestPair
 pub mod LeastId
 pub mod LongestRuns
 pub mod RisingLists
+pub mod LiveAgents
+pub mod OutputCases
+pub mod Sending
+pub mod Batching

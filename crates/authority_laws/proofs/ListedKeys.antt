@@ -99,7 +99,7 @@ agents_listed (i ∷ past) legal a h = of (agents_listed past legal.1 a) (append
     of ih (inr h) = new (registers past (in_force past) i) refl h
 
 -- an agent that is asked is in force
-agent_for_has : (past : List Item) (f : Facts) (a : Agent) → agent_for past f ≡ Some a → Has (in_force past) a
+pub agent_for_has : (past : List Item) (f : Facts) (a : Agent) → agent_for past f ≡ Some a → Has (in_force past) a
 agent_for_has past f a e = of (agent_of f.key (in_force past)) refl e
   where
     found : (key : Key) → agent_of key (in_force past) ≡ Some a → Has (in_force past) a

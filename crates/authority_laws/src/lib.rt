@@ -13,6 +13,7 @@ mod licence;
 mod listed;
 mod looking_back;
 mod rising;
+mod sent;
 mod single;
 
 pub use choosing::{
@@ -27,4 +28,8 @@ pub use looking_back::{
     registrations_found,
 };
 pub use rising::{challenges_rise, grants_rise, live_connections_listed};
+pub use sent::{
+    beginnings_are_legal, collects_take_batches, departed_are_sent_nothing, outputs_are_few,
+    outputs_can_be_written, outputs_go_to_live_connections, outputs_name_loads,
+};
 pub use single::{one_challenge_found, one_grant_a_number, one_registration_a_key};
