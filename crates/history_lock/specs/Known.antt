@@ -12,3 +12,12 @@ pub record Known (I : Type 0) : Type 0 where
   pub made : ℕ
   -- the kept cause, if it knows one: its history is the whole one then
   pub ended : Option EndCause
+
+-- What lies under the lock.
+pub record Held (I : Type 0) : Type 0 where
+  -- the machine's entries, the oldest first
+  pub entries : List I
+  -- how many passes were made
+  pub made : ℕ
+  -- the kept cause, if there is one
+  pub ended : Option EndCause

@@ -69,10 +69,10 @@ impl<M: Machine, T: TableName> HistoryLock<M, T> {
         requires machine { M.entries machine ≡ [] }
         requires table { opened ≡ T.table }
         ensures starts { IsOk result }
-        ensures first { IfOk result (λ r. (r.1.number ≡ 0)
-            × (r.1.history ≡ [])
-            × (r.1.made ≡ 1)
-            × (r.1.ended ≡ None)) }
+        ensures first { IfOk result (λ (lock, pass). (pass.number ≡ 0)
+            × (pass.history ≡ [])
+            × (pass.made ≡ 1)
+            × (pass.ended ≡ None)) }
     {
         let Opened { table, mut book } = opened;
         let seat = steps::admit(&table, &mut book);

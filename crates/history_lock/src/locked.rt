@@ -30,13 +30,13 @@ pub struct Locked<M: Machine, T: TableName> {
 }
 
 impl<M: Machine, T: TableName> Model for Locked<M, T> {
-    ghost use Rattle.std.specs.Prelude.{◌≡◌, ◌≤◌, ℕ, List, Option};
-    ghost use Rattle.history_lock.specs.declared.machine.EndCause.{EndCause};
+    ghost use Rattle.std.specs.Prelude.{◌≡◌, ◌≤◌};
+    ghost use Rattle.history_lock.specs.Known.{Held};
     ghost use Rattle.history_lock.specs.Calls.{IsBook, CauseFits};
 
-    ghost Value = { List M.Item × ℕ × Option EndCause };
+    ghost Value = { Held M.Item };
 
-    ghost view = { λ l. (M.entries l.machine, l.made, l.cause) };
+    ghost view = { λ l. record { entries = M.entries l.machine; made = l.made; ended = l.cause } };
 
     ghost invariant = { λ l. (l.book.table_id ≡ T.table)
         × IsBook l.book.me.0 (M.entries l.machine) l.made l.cause
@@ -163,16 +163,16 @@ impl<M: Machine, T: TableName> Locked<M, T> {
         op: M::Op,
     ) -> Result<M::Reply, CallRefused<M::Op, M::Refusal>>
         requires table { IsNamed table.now.shared.table_id T.table }
-        requires turn { IsSome self.old.2
-            ⊎ (M.legal self.old.0 → M.is_ready pass.old.number op self.old.0) }
+        requires turn { IsSome self.old.ended
+            ⊎ (M.legal self.old.entries → M.is_ready pass.old.number op self.old.entries) }
         ensures ok { IfOk result (λ reply.
             Answered M.caller_of M.legal M.is_ready M.gives pass.old op reply pass.new) }
         ensures err { IfErr result (λ r.
             Refused M.caller_of M.legal M.refuses M.fits pass.old op r pass.new) }
-        ensures whole { pass.new.history ≡ self.new.0 }
-        ensures not_ended { IfOk result (λ _. self.old.2 ≡ None) }
-        ensures refused { IfErr result (λ r. (self.new.0 ≡ self.old.0) × IsEndedBy r self.old.2) }
-        ensures rest { (self.new.1 ≡ self.old.1) × (self.new.2 ≡ self.old.2) }
+        ensures whole { pass.new.history ≡ self.new.entries }
+        ensures not_ended { IfOk result (λ _. self.old.ended ≡ None) }
+        ensures refused { IfErr result (λ r. (self.new.entries ≡ self.old.entries) × IsEndedBy r self.old.ended) }
+        ensures rest { (self.new.made ≡ self.old.made) × (self.new.ended ≡ self.old.ended) }
     {
         settle_receipt(table, &mut self.book, pass);
         if let Some(cause) = self.cause {
@@ -195,8 +195,8 @@ impl<M: Machine, T: TableName> Locked<M, T> {
 
     /// Whether a call has to wait: the lock has not ended, and the operation is not ready.
     pub fn waits(&self, caller: u32, op: &M::Op) -> bool
-        ensures goes { result ≡ false → IsSome self.now.2 ⊎ M.is_ready caller op.now self.now.0 }
-        ensures waits { result ≡ true → (self.now.2 ≡ None) × ¬ M.is_ready caller op.now self.now.0 }
+        ensures goes { result ≡ false → IsSome self.now.ended ⊎ M.is_ready caller op.now self.now.entries }
+        ensures waits { result ≡ true → (self.now.ended ≡ None) × ¬ M.is_ready caller op.now self.now.entries }
     {
         self.cause.is_none() && !self.machine.ready(caller, op)
     }
@@ -210,10 +210,10 @@ impl<M: Machine, T: TableName> Locked<M, T> {
         requires { IsNamed table.now.shared.table_id T.table }
         ensures ok { IfOk result (λ new. Admitted M.caller_of M.legal pass.old new pass.new) }
         ensures full { IfErr result (λ r. NoneAdmitted M.caller_of M.legal pass.old r pass.new) }
-        ensures made { IfOk result (λ new. (new.number ≡ self.old.1) × (self.new.1 ≡ self.old.1 + 1)) }
-        ensures only_full { IfErr result (λ _. (self.old.1 ≡ 1048576) × (self.new.1 ≡ self.old.1)) }
-        ensures whole { pass.new.history ≡ self.old.0 }
-        ensures rest { (self.new.0 ≡ self.old.0) × (self.new.2 ≡ self.old.2) }
+        ensures made { IfOk result (λ new. (new.number ≡ self.old.made) × (self.new.made ≡ self.old.made + 1)) }
+        ensures only_full { IfErr result (λ _. (self.old.made ≡ 1048576) × (self.new.made ≡ self.old.made)) }
+        ensures whole { pass.new.history ≡ self.old.entries }
+        ensures rest { (self.new.entries ≡ self.old.entries) × (self.new.ended ≡ self.old.ended) }
     {
         settle_receipt(table, &mut self.book, pass);
         if self.made >= MOST_PASSES {
@@ -243,10 +243,10 @@ impl<M: Machine, T: TableName> Locked<M, T> {
         ensures top { pass.new.made ≤ 1048576 }
         ensures knows { pass.new.ended ≡ Some result }
         ensures knew { IfSome pass.old.ended (λ known. result ≡ known) }
-        ensures kept { self.new.2 ≡ Some result }
-        ensures first { MatchOption self.old.2 (result ≡ cause) (λ first. result ≡ first) }
-        ensures whole { pass.new.history ≡ self.old.0 }
-        ensures rest { (self.new.0 ≡ self.old.0) × (self.new.1 ≡ self.old.1) }
+        ensures kept { self.new.ended ≡ Some result }
+        ensures first { MatchOption self.old.ended (result ≡ cause) (λ first. result ≡ first) }
+        ensures whole { pass.new.history ≡ self.old.entries }
+        ensures rest { (self.new.entries ≡ self.old.entries) × (self.new.made ≡ self.old.made) }
     {
         settle_receipt(table, &mut self.book, pass);
         let kept = keep_cause(table, &mut self.book, self.cause, cause);

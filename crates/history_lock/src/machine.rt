@@ -60,9 +60,9 @@ pub trait Machine {
             × (caller_of e ≡ caller)
             × gives caller op (entries self.old) e reply
             × legal (entries self.new)) }
-        ensures err { IfErr result (λ refused. (entries self.new ≡ entries self.old)
-            × (refused.1 ≡ op)
-            × refuses caller op (entries self.old) refused.0) };
+        ensures err { IfErr result (λ (refusal, back). (entries self.new ≡ entries self.old)
+            × (back ≡ op)
+            × refuses caller op (entries self.old) refusal) };
 
     /// Whether an operation of the caller may be applied now.
     fn ready(&self, caller: u32, op: &Self::Op) -> bool

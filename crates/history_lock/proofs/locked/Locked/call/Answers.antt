@@ -1,7 +1,7 @@
 use Rattle.std.proofs.Common.{◌≡◌, ℕ, List, Option, None, refl, sym, ap, ◌∙◌, subst, ⊎_elim, arith}
 use Rattle.std.specs.Prelude.{IsSome}
 use mathlib.Core.List.{IsPrefix}
-use Rattle.history_lock.specs.Known.{Known}
+use Rattle.history_lock.specs.Known.{Known, Held}
 use Rattle.history_lock.specs.declared.view.View.{View}
 use Rattle.history_lock.specs.declared.machine.EndCause.{EndCause}
 use Rattle.history_lock.specs.Calls.{CauseFits}
@@ -64,11 +64,11 @@ returns-in-Ok-clause-ok g c =
     let written : c.append.new.book.me.0.history ≡ after = ap (λ (v : View g.row.M-Item.Denot). v.history) p.entry.2 ∙ sym p.entry.1 in
     let history : w.history ≡ after = ap history_of b.pass ∙ t.history ∙ written in
     let begins : IsPrefix c.args.pass.now.history before = subst (λ (l : List g.row.M-Item.Denot). IsPrefix c.args.pass.now.history l) inv.1.history s.begins in
-    let cause : c.self.inside.cause ≡ c.args.self.now.2 = ap (λ (x : List g.row.M-Item.Denot × ℕ × Option EndCause). x.2) c.self.view_is in
-    let entries : c.args.self.now.0 ≡ before = sym (ap (λ (x : List g.row.M-Item.Denot × ℕ × Option EndCause). x.0) c.self.view_is) in
+    let cause : c.self.inside.cause ≡ c.args.self.now.ended = ap (λ (x : Held g.row.M-Item.Denot). x.ended) c.self.view_is in
+    let entries : c.args.self.now.entries ≡ before = sym (ap (λ (x : Held g.row.M-Item.Denot). x.entries) c.self.view_is) in
     let ready : m.is_ready c.args.pass.now.number c.args.op before =
-    ⊎_elim (λ (ended : IsSome c.args.self.now.2). absurd (cc (subst (λ (o : Option EndCause). IsSome o) (sym cause ∙ c.in_default.is) ended)))
-    (λ (turn : m.legal c.args.self.now.0 → m.is_ready c.args.pass.now.number c.args.op c.args.self.now.0). subst (λ (l : List g.row.M-Item.Denot). m.legal l → m.is_ready c.args.pass.now.number c.args.op l) entries turn (subst m.legal inv.1.history s.legal))
+    ⊎_elim (λ (ended : IsSome c.args.self.now.ended). absurd (cc (subst (λ (o : Option EndCause). IsSome o) (sym cause ∙ c.in_default.is) ended)))
+    (λ (turn : m.legal c.args.self.now.entries → m.is_ready c.args.pass.now.number c.args.op c.args.self.now.entries). subst (λ (l : List g.row.M-Item.Denot). m.legal l → m.is_ready c.args.pass.now.number c.args.op l) entries turn (subst m.legal inv.1.history s.legal))
     c.requires.turn in
     let knows = s.made in
     let counted : w.made ≡ c.self.inside.book.me.0.made = ap made_of b.pass ∙ t.made ∙ ap (λ (v : View g.row.M-Item.Denot). v.made) p.entry.2 ∙ s.book_made in
