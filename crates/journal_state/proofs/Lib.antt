@@ -10,3 +10,5 @@ pub mod Within
 pub mod Deciding
 pub mod Current
 pub mod Revoking
+pub mod Placing
+pub mod Collecting

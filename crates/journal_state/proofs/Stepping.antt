@@ -12,7 +12,7 @@ use Rattle.authority_model.specs.Worlds.{process_row}
 use Rattle.authority_model.specs.Items.{world_of}
 use Rattle.authority_model.specs.Peers.{uid_of, departed, last_announced, uid_given, is_depart, is_by, connects, departs, call_in, process_named}
 use Rattle.journal_state.specs.declared.connections.Connection.{Connection}
-use Rattle.journal_state.specs.Connected.{known, row_after, row_of, Tells}
+use Rattle.journal_state.specs.Connected.{connection, known, row_after, row_of, Tells}
 
 -- who never connected has not departed
 pub departed_unknown : (past : List Item) (c : ℕ) → uid_of past c ≡ None → departed past c ≡ false
@@ -22,6 +22,14 @@ departed_unknown (i ∷ past) c e = go (uid_of past c) refl e (departed_unknown 
     go : (u : Option ℕ) → uid_of past c ≡ u → or_else u (connects c i) ≡ None → (uid_of past c ≡ None → departed past c ≡ false) → (departed past c || (is_some u && departs c i)) ≡ false
     go None is e ih = ap (λ b. b || false) (ih is)
     go (Some uid) is e ih = absurd (cc)
+
+-- the row of a connection tells whether it departed
+pub known_departed : (past : List Item) (c : ℕ) (row : Option Connection) → row ≡ known past c → option_map_or (λ (r : Connection). r.departed) row false ≡ departed past c
+known_departed past c row is = ap (λ (o : Option Connection). option_map_or (λ (r : Connection). r.departed) o false) is ∙ go (uid_of past c) refl
+  where
+    go : (u : Option ℕ) → uid_of past c ≡ u → option_map_or (λ (r : Connection). r.departed) (option_map (connection past c) u) false ≡ departed past c
+    go None none = sym (departed_unknown past c none)
+    go (Some uid) some = refl
 
 -- the process that an item of a connection of this uid announces in a world
 abbrev accepted_of : World → Option ℕ → Bool → Bool → Option ProcessId → Option ProcessId

@@ -3,6 +3,8 @@ pub mod Ended
 pub mod Closed
 pub mod Tables
 pub mod Counted
+pub mod Placed
+pub mod Collected
 pub mod Revoked
 pub mod Opening
 pub mod Current

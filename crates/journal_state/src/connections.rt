@@ -7,7 +7,7 @@ ghost use Rattle.authority_model.specs.declared.load.Loaded.{Loaded};
 ghost use Rattle.authority_model.specs.declared.journal.Item.{Item};
 ghost use Rattle.authority_model.specs.Items.{world_of};
 ghost use Rattle.authority_model.specs.Lists.{when};
-ghost use Rattle.authority_model.specs.Peers.{uid_of, live, announced, is_root, may_for, live_connections, uid_given, is_depart, call_in, process_named};
+ghost use Rattle.authority_model.specs.Peers.{uid_of, live, departed, announced, is_root, may_for, live_connections, uid_given, is_depart, call_in, process_named};
 ghost use Rattle.journal_state.specs.Connected.{Tells, row_of, row_after, may_announce, live_rows};
 
 use authority_model::{Call, Entry, Event, ProcessId, World};
@@ -171,6 +171,16 @@ impl Connections {
     {
         match self.row(caller) {
             Some(row) => !row.departed,
+            None => false,
+        }
+    }
+
+    /// Whether a connection departed after it connected.
+    pub fn is_departed(&self, caller: u32) -> bool
+        ensures departed { (past : List Item) → Tells self.now past → result ≡ departed past caller }
+    {
+        match self.row(caller) {
+            Some(row) => row.departed,
             None => false,
         }
     }

@@ -5,12 +5,14 @@
 #![tactic(auto)]
 
 mod challenges;
+mod collections;
 mod connections;
 mod ending;
 mod granting;
 mod grants;
 mod names;
 mod opening;
+mod places;
 mod registrations;
 mod response;
 mod revocation;
@@ -22,8 +24,10 @@ mod tables;
 mod tests;
 
 pub use challenges::Challenges;
+pub use collections::{Collection, Collections};
 pub use connections::{Connection, Connections};
 pub use grants::Grants;
+pub use places::{OutputPlace, SentPlaces};
 pub use registrations::Registrations;
 pub use sent::SentCounts;
 pub use state::State;

@@ -1,25 +1,29 @@
 // The state of a history.
-ghost use Rattle.std.specs.Prelude.{◌≡◌, ◌<◌, ◌≤◌, ◌^◌, ◌∷◌, [], List, length, OnOk, OnErr};
+ghost use Rattle.std.specs.Prelude.{◌≡◌, ◌<◌, ◌≤◌, ◌^◌, ◌∷◌, [], List, Option, length, OnOk, OnErr};
 ghost use Rattle.std.specs.Option.{option_copied};
 ghost use Rattle.authority_model.specs.declared.journal.Item.{Item};
+ghost use Rattle.authority_model.specs.declared.load.Loaded.{Loaded};
 ghost use Rattle.authority_model.specs.Items.{loaded_of, world_of};
 ghost use Rattle.authority_model.specs.Small.{IsShort};
 ghost use Rattle.authority_model.specs.Challenges.{opened as opened_by};
 ghost use Rattle.authority_model.specs.Grants.{granted as granted_by};
 ghost use Rattle.authority_model.specs.Legal.{last_moment};
+ghost use Rattle.journal_state.specs.Connected.{Tells};
+ghost use Rattle.journal_state.specs.Placed.{Locates};
 ghost use Rattle.journal_state.specs.States.{IsStateOf};
 ghost use Rattle.journal_state.specs.Tables.{HasRoom};
 
 use crate::challenges::Challenges;
+use crate::collections::{Collections, collection_in};
 use crate::connections::Connections;
 use crate::ending::ending_of;
 use crate::granting::granted;
 use crate::grants::Grants;
 use crate::opening::opened;
+use crate::places::SentPlaces;
 use crate::registrations::Registrations;
 use crate::response::response_in;
 use crate::revocation::revocation_of;
-use crate::sent::SentCounts;
 use authority_model::{Entry, GrantRow, Loaded, Pending, World};
 use pk_types::NoMemory;
 use std::alloc::Global;
@@ -28,7 +32,8 @@ use std::alloc::Global;
 #[derive(Drop)]
 pub struct State {
     pub connections: Connections,
-    pub sent: SentCounts,
+    pub sent: SentPlaces,
+    pub collections: Collections,
     pub registrations: Registrations,
     pub challenges: Challenges,
     pub grants: Grants,
@@ -54,6 +59,33 @@ fn reserve_rows(
     grants.try_reserve()
 }
 
+/// Adds the places of the outputs of the entry at this place, and carries the connections on by it, in
+/// the world that was in force before it.
+///
+/// A refusal leaves the connections and what the places stand for as they were.
+fn carry_connections(
+    connections: &mut Connections,
+    sent: &mut SentPlaces,
+    world: &World,
+    place: u64,
+    entry: &Entry,
+) -> Result<(), NoMemory>
+    ensures connections { (past : List Item) (loaded : Option Loaded) → Tells connections.old past → world.now ≡ world_of past → OnOk result (Tells connections.new (record { entry = entry.now; loaded = loaded } ∷ past)) }
+    ensures sent { (past : List Item) (loaded : Option Loaded) → Locates sent.old past → place ≡ length past → OnOk result (Locates sent.new (record { entry = entry.now; loaded = loaded } ∷ past)) }
+    ensures same { OnErr result (connections.new ≡ connections.old) }
+    ensures kept { (past : List Item) → Locates sent.old past → OnErr result (Locates sent.new past) }
+{
+    let outputs = entry.outputs.as_slice();
+    sent.add(place, outputs)?;
+    match connections.after(world, entry) {
+        Ok(()) => Ok(()),
+        Err(NoMemory) => {
+            sent.take_back(outputs);
+            Err(NoMemory)
+        }
+    }
+}
+
 impl State {
     /// The state of the empty history. It takes no memory.
     pub fn start(alloc: Global) -> State
@@ -61,7 +93,8 @@ impl State {
     {
         State {
             connections: Connections::start(alloc),
-            sent: SentCounts::start(alloc),
+            sent: SentPlaces::start(alloc),
+            collections: Collections::start(alloc),
             registrations: Registrations::start(alloc),
             challenges: Challenges::start(alloc),
             grants: Grants::start(alloc),
@@ -86,7 +119,7 @@ impl State {
     {
         let opened = opened(self, in_force, place, entry)?;
         let granted = granted(self, in_force, entry)?;
-        self.carry(&in_force.world, entry, loaded, opened, granted)
+        self.carry(&in_force.world, place, entry, loaded, opened, granted)
     }
 
     /// The same, where the item opens this challenge and makes this temporary authorization, in the
@@ -94,26 +127,28 @@ impl State {
     fn carry(
         &mut self,
         world: &World,
+        place: u64,
         entry: &Entry,
         loaded: Option<&Loaded>,
         opened: Option<Pending>,
         granted: Option<GrantRow>,
     ) -> Result<(), NoMemory>
-        ensures ok { (past : List Item) → world.now ≡ world_of past → last_moment past ≤ entry.now.moment → opened ≡ opened_by past (record { entry = entry.now; loaded = option_copied loaded.entry }) → granted ≡ granted_by past (record { entry = entry.now; loaded = option_copied loaded.entry }) → IsStateOf past self.old → OnOk result (IsStateOf (record { entry = entry.now; loaded = option_copied loaded.entry } ∷ past) self.new) }
+        ensures ok { (past : List Item) → world.now ≡ world_of past → place ≡ length past → last_moment past ≤ entry.now.moment → opened ≡ opened_by past (record { entry = entry.now; loaded = option_copied loaded.entry }) → granted ≡ granted_by past (record { entry = entry.now; loaded = option_copied loaded.entry }) → IsStateOf past self.old → OnOk result (IsStateOf (record { entry = entry.now; loaded = option_copied loaded.entry } ∷ past) self.new) }
         ensures err { OnErr result ((past : List Item) → IsStateOf past self.old → IsStateOf past self.new) }
     {
         let made = self.registrations.made(&self.connections, world, entry)?;
         let ending = ending_of(&self.connections, world, entry, loaded);
         let response = response_in(&self.connections, entry);
         let revocation = revocation_of(&self.connections, world, entry);
+        let collection = collection_in(&self.sent, entry);
         reserve_rows(
             &mut self.registrations,
             &mut self.challenges,
             &mut self.grants,
         )?;
-        self.sent.try_reserve(entry.outputs.as_slice())?;
-        self.connections.after(world, entry)?;
-        self.sent.add(entry.outputs.as_slice());
+        self.collections.try_reserve(collection)?;
+        carry_connections(&mut self.connections, &mut self.sent, world, place, entry)?;
+        self.collections.change(collection);
         self.registrations.change(ending, made);
         self.challenges.change(entry, ending, response, opened);
         self.grants

@@ -3,7 +3,7 @@
 ghost use Rattle.std.specs.Prelude.{◌≤◌, ◌^◌, IfOk};
 ghost use Rattle.authority_model.specs.Small.{IsShort};
 
-use crate::State;
+use crate::{OutputPlace, State};
 use authority_model::{
     Action, Call, Cookie, Entry, Event, Loaded, Message, Output, OutputList, Process, ProcessId,
 };
@@ -196,6 +196,42 @@ fn grants_at(alloc: Global, moment: u64) -> Result<usize, Fail>
     }
     step(alloc, &mut state, &loaded, 8, moment)?;
     Ok(state.grants.as_slice().len())
+}
+
+/// Carries a state on by a Collect at a place: 9 takes the outputs to connection 1.
+fn collect(state: &mut State, loaded: &Loaded, alloc: Global, place: u64) -> Result<(), Fail>
+    requires entries { IsShort loaded.now.policy.entries }
+{
+    let entry = Entry {
+        caller: 9,
+        moment: 10,
+        salt: 0,
+        event: Event::Collect { of: 1 },
+        outputs: List::new(alloc),
+    };
+    state.after(loaded, place, &entry, None)?;
+    Ok(())
+}
+
+#[test]
+fn outputs_are_located_and_collected(rt: HostRuntime) -> Result<(), Fail> {
+    let alloc = rt.alloc();
+    let loaded = load(alloc)?;
+    let mut state = State::start(alloc);
+    for place in 0..4 {
+        step(alloc, &mut state, &loaded, place, 10)?;
+    }
+    let begin = OutputPlace {
+        entry: 3,
+        output: 0,
+    };
+    assert!(rt; state.sent.place(1, 0) == Some(begin));
+    assert!(rt; state.sent.place(1, 1).is_none() && state.sent.place(2, 0).is_none());
+    assert!(rt; state.collections.count(9, 1) == 0);
+    collect(&mut state, &loaded, alloc, 4)?;
+    assert!(rt; state.collections.count(9, 1) == 1 && state.collections.count(8, 1) == 0);
+    assert!(rt; state.collections.count(9, 2) == 0);
+    Ok(())
 }
 
 #[test]
