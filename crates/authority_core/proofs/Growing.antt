@@ -17,7 +17,7 @@ use Rattle.authority_model.specs.Items.{items_of, is_load, loaded_of}
 use Rattle.authority_model.specs.Answers.{answers, loads}
 use Rattle.authority_model.specs.Legal.{Legal, Follows, IsNumbered, IsCollected, last_moment}
 use Rattle.authority_model.specs.Entering.{cost_of_item, counted_bytes, is_full}
-use Rattle.authority_model.specs.Given.{Given, IsStepped, event_given, load_given, item_of, next, Grows}
+use Rattle.authority_model.specs.Given.{Given, IsProperEvent, IsStepped, event_given, load_given, item_of, next, Grows}
 use Rattle.authority_model.specs.Small.{IsShort}
 use Rattle.authority_model.proofs.Pairing.{length_items, items_other, items_load, load_count, count_one}
 use Rattle.journal_state.specs.declared.state.State.{State}
@@ -26,42 +26,58 @@ use Rattle.authority_core.specs.Journal.{Journal}
 use Rattle.authority_core.specs.Refusals.{IsFullAt}
 use Rattle.authority_core.specs.Sound.{IsSound}
 
--- what a step takes is not a load
-other : (event : Event) → IsStepped event → is_load event ≡ false
-other (Load load) s = absurd s
-other (Connect uid) s = refl
-other (Called serial quiet call) s = refl
-other (Returned serial) s = refl
-other (AgentError serial name) s = refl
-other Passed s = refl
-other Depart s = refl
-other (LoadFailed code) s = refl
-other Stop s = refl
-other (Collect of) s = absurd s
+-- what is handed in as an event is not a load
+other : (g : Given) (event : Event) → IsProperEvent g event → is_load event ≡ false
+other g (Load load) proper = absurd proper
+other g (Connect uid) proper = refl
+other g (Called serial quiet call) proper = refl
+other g (Returned serial) proper = refl
+other g (AgentError serial name) proper = refl
+other g Passed proper = refl
+other g Depart proper = refl
+other g (LoadFailed code) proper = refl
+other g Stop proper = refl
+other g (Collect of) proper = refl
 
-numbered : (n : ℕ) (event : Event) → IsStepped event → IsNumbered n event None
-numbered n (Load load) s = absurd s
-numbered n (Connect uid) s = refl
-numbered n (Called serial quiet call) s = refl
-numbered n (Returned serial) s = refl
-numbered n (AgentError serial name) s = refl
-numbered n Passed s = refl
-numbered n Depart s = refl
-numbered n (LoadFailed code) s = refl
-numbered n Stop s = refl
-numbered n (Collect of) s = absurd s
+numbered : (n : ℕ) (g : Given) (event : Event) → IsProperEvent g event → IsNumbered n event None
+numbered n g (Load load) proper = absurd proper
+numbered n g (Connect uid) proper = refl
+numbered n g (Called serial quiet call) proper = refl
+numbered n g (Returned serial) proper = refl
+numbered n g (AgentError serial name) proper = refl
+numbered n g Passed proper = refl
+numbered n g Depart proper = refl
+numbered n g (LoadFailed code) proper = refl
+numbered n g Stop proper = refl
+numbered n g (Collect of) proper = refl
 
-collected : (t : ℕ) (e : Entry) (event : Event) → IsStepped event → IsCollected t e event
-collected t e (Load load) s = tt
-collected t e (Connect uid) s = tt
-collected t e (Called serial quiet call) s = tt
-collected t e (Returned serial) s = tt
-collected t e (AgentError serial name) s = tt
-collected t e Passed s = tt
-collected t e Depart s = tt
-collected t e (LoadFailed code) s = tt
-collected t e Stop s = tt
-collected t e (Collect of) s = absurd s
+-- a Collect is handed in with the moment 0, so it has the moment before it
+collected : (t : ℕ) (g : Given) (e : Entry) (event : Event) → IsProperEvent g event → e.moment ≡ max t g.moment → e.salt ≡ g.salt → IsCollected t e event
+collected t g e (Load load) proper moment salt = absurd proper
+collected t g e (Connect uid) proper moment salt = tt
+collected t g e (Called serial quiet call) proper moment salt = tt
+collected t g e (Returned serial) proper moment salt = tt
+collected t g e (AgentError serial name) proper moment salt = tt
+collected t g e Passed proper moment salt = tt
+collected t g e Depart proper moment salt = tt
+collected t g e (LoadFailed code) proper moment salt = tt
+collected t g e Stop proper moment salt = tt
+collected t g e (Collect of) proper moment salt =
+    let zero_moment = proper.0 in
+    (omega (arith, moment, zero_moment), salt ∙ proper.1)
+
+-- what a step takes is handed in as an event
+pub stepped_proper : (g : Given) (event : Event) → IsStepped event → IsProperEvent g event
+stepped_proper g (Load load) s = absurd s
+stepped_proper g (Connect uid) s = tt
+stepped_proper g (Called serial quiet call) s = tt
+stepped_proper g (Returned serial) s = tt
+stepped_proper g (AgentError serial name) s = tt
+stepped_proper g Passed s = tt
+stepped_proper g Depart s = tt
+stepped_proper g (LoadFailed code) s = tt
+stepped_proper g Stop s = tt
+stepped_proper g (Collect of) s = absurd s
 
 -- one more entry at the end, and how many of the entries are loads
 count_end : (es : List Entry) (e : Entry) (b : Bool) → is_load e.event ≡ b → load_count (es ++ e ∷ []) ≡ count_one b (load_count es)
@@ -94,7 +110,7 @@ end_of ls l = slice_get-get_or (ls ++ l ∷ []) (length ls) l (omega (arith, len
 
 -- an event's entry that was pushed, with a state of the history that ends with it
 module _ (h : History) (moment : ℕ) (empty : Loaded) (state : State) (sound : IsSound h moment empty state) (caller m t salt : ℕ) (event : Event) (outputs : List Output) (es : List Entry) (state' : State)
-    (stepped : IsStepped event) (bounded : m ≤ 2 ^ 62) (t_is : t ≡ max moment m)
+    (proper : IsProperEvent (event_given caller m salt event) event) (bounded : m ≤ 2 ^ 62) (t_is : t ≡ max moment m)
     (answered : outputs ≡ answers (items_of h) caller t salt event None)
     (pushed : es ≡ h.entries ++ record { caller = caller; moment = t; salt = salt; event = event; outputs = outputs } ∷ [])
     (stands : IsStateOf (record { entry = record { caller = caller; moment = t; salt = salt; event = event; outputs = outputs }; loaded = None } ∷ items_of h) state') where
@@ -107,19 +123,19 @@ module _ (h : History) (moment : ℕ) (empty : Loaded) (state : State) (sound : 
   event_entry = pushed ∙ ap (λ (e : Entry). h.entries ++ e ∷ []) event_entry_is
 
   pub event_grows : Grows h (record { entries = es; loads = h.loads }) (event_given caller m salt event)
-  event_grows = rw event_entry (items_other h (next (items_of h) (event_given caller m salt event)).entry (other event stepped))
+  event_grows = rw event_entry (items_other h (next (items_of h) (event_given caller m salt event)).entry (other (event_given caller m salt event) event proper))
 
   pub event_sound : IsSound (record { entries = es; loads = h.loads }) t empty state'
   event_sound =
       let past = items_of h in
       let item : Item = next past (event_given caller m salt event) in
-      let follows : Follows past item = record { rises = omega arith; bounded = omega (arith, last_bound past sound.legal.items); numbered = numbered (loads past) event stepped; collected = collected (last_moment past) item.entry event stepped; answered = refl } in
+      let follows : Follows past item = record { rises = omega arith; bounded = omega (arith, last_bound past sound.legal.items); numbered = numbered (loads past) (event_given caller m salt event) event proper; collected = collected (last_moment past) (event_given caller m salt event) item.entry event proper refl refl; answered = refl } in
       record {
         legal = record { items = subst Legal (sym event_grows) (follows, sound.legal.items); loads = ap loads event_grows ∙ omega (arith, sound.legal.loads) };
         moment_is = t_is ∙ ap (λ n. max n m) sound.moment_is ∙ ap last_moment (sym event_grows);
         empty_is = sound.empty_is;
         state_is = subst (λ past. IsStateOf past state') (ap (λ (e : Entry). record { entry = e; loaded = None } ∷ past) event_entry_is ∙ sym event_grows) stands;
-        each_loaded = ap load_count event_entry ∙ count_end h.entries item.entry false (other event stepped) ∙ sound.each_loaded;
+        each_loaded = ap load_count event_entry ∙ count_end h.entries item.entry false (other (event_given caller m salt event) event proper) ∙ sound.each_loaded;
         few = sound.few;
         actions = subst (λ past. IsShort (loaded_of past).policy.actions) (sym event_grows) sound.actions;
         rules = subst (λ past. IsShort (loaded_of past).policy.entries) (sym event_grows) sound.rules;
@@ -196,3 +212,14 @@ full_at limits h bytes journal n seen entries counted full = record {
   entries_are = entries ∙ sym (length_items h) ∙ ap (λ (j : Journal). length (items_of j.history)) seen;
   bytes_are = counted ∙ ap (λ (j : Journal). counted_bytes (items_of j.history)) seen;
 }
+
+-- a journal that is not full has fewer bytes than its limit
+pub bytes_below : (limits : Limits) (h : History) (bytes : ℕ) (journal : Journal) → record { history = h; limits = limits } ≡ journal → bytes ≡ counted_bytes (items_of h) → is_full journal.limits (items_of journal.history) ≡ false → bytes < limits.bytes
+bytes_below limits h bytes journal seen counted room =
+    let here : is_full limits (items_of h) ≡ false = subst (λ (j : Journal). is_full j.limits (items_of j.history) ≡ false) (sym seen) room in
+    let test : nat_le limits.bytes bytes ≡ false = ap (nat_le limits.bytes) counted ∙ second (nat_le limits.entries (length (items_of h))) (nat_le limits.bytes (counted_bytes (items_of h))) here in
+    grind (arith, nat_tests)
+  where
+    second : (a b : Bool) → (a || b) ≡ false → b ≡ false
+    second true b is = absurd (cc)
+    second false b is = is

@@ -1,4 +1,5 @@
 pub mod Sound
 pub mod Journal
 pub mod Refusals
+pub mod Collecting
 pub mod Kept

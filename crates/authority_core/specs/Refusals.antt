@@ -1,9 +1,11 @@
 -- Why an authority refuses what is handed in: the journal is full, and this is how full; or memory was refused. What was handed in comes back.
-use Rattle.std.specs.Prelude.{◌≡◌, ℕ, length, true}
+use Rattle.std.specs.Prelude.{◌≡◌, ⊤, ℕ, length, true}
 use Rattle.authority_model.specs.declared.event.Event.{Event}
 use Rattle.authority_model.specs.declared.load.Loaded.{Loaded}
 use Rattle.authority_model.specs.Entering.{counted_bytes, is_full}
 use Rattle.authority_model.specs.Items.{items_of}
+use Rattle.authority_core.specs.declared.collecting.CollectStepRefused.{CollectStepRefused}
+use Rattle.authority_core.specs.declared.collecting.CollectStepRefused.TheVariants as collect_refused
 use Rattle.authority_core.specs.declared.authority.LoadStepRefused.{LoadStepRefused}
 use Rattle.authority_core.specs.declared.authority.LoadStepRefused.TheVariants as load_refused
 use Rattle.authority_core.specs.declared.authority.StepRefused.{StepRefused}
@@ -25,3 +27,8 @@ IsStepRefused journal event (step_refused.NoMemory back) = back ≡ event
 abbrev pub IsLoadRefused : Journal → Loaded → LoadStepRefused → Type 0
 IsLoadRefused journal loaded (load_refused.JournalFull entries bytes back) = IsFullAt journal entries bytes × (back ≡ loaded)
 IsLoadRefused journal loaded (load_refused.NoMemory back) = back ≡ loaded
+
+-- a Collect was refused
+abbrev pub IsCollectRefused : Journal → CollectStepRefused → Type 0
+IsCollectRefused journal (collect_refused.JournalFull entries bytes) = IsFullAt journal entries bytes
+IsCollectRefused journal collect_refused.NoMemory = ⊤

@@ -1,15 +1,19 @@
 // The authority: its journal, and the calls that add to it.
-ghost use Rattle.std.specs.Prelude.{◌≡◌, ◌≤◌, ◌^◌, ◌++◌, ◌∷◌, [], false, max, length, slice_get, IfOk, IfErr, OnOk, OnErr};
+ghost use Rattle.std.specs.Prelude.{◌≡◌, ◌≤◌, ◌^◌, ◌++◌, ◌∷◌, [], false, true, max, length, slice_get, IfOk, IfErr, OnOk, OnErr};
 ghost use Rattle.std.specs.Option.{option_copied, option_map};
-ghost use Rattle.authority_model.specs.Items.{items_of, policy_of};
+ghost use Rattle.authority_laws.specs.Batches.{IsBatch, collect_given};
+ghost use Rattle.authority_model.specs.Items.{items_of, policy_of, sent};
 ghost use Rattle.authority_model.specs.Legal.{IsLegal, last_moment};
 ghost use Rattle.authority_model.specs.Licensed.{AllLicensed};
 ghost use Rattle.authority_model.specs.Deciding.{decision as decision_on, told_decision};
 ghost use Rattle.authority_model.specs.Grants.{kept};
-ghost use Rattle.authority_model.specs.Given.{IsStepped, event_given, load_given, next, Grows};
+ghost use Rattle.authority_model.specs.Given.{IsProperEvent, IsStepped, event_given, load_given, next, Grows};
+ghost use Rattle.authority_model.specs.Sent.{is_ready};
+ghost use Rattle.authority_core.specs.Collecting.{numbered_output};
 
+use crate::collecting::{Batch, CollectStepRefused, batch_of, output_to};
 use crate::entering::{enter, enter_load, load_in_force, next_load};
-use authority_model::{Decision, Entry, Event, History, Limits, Loaded};
+use authority_model::{Decision, Entry, Event, History, Limits, Loaded, Output};
 use check_decision::decision;
 use journal_answers::{load_outputs, outputs};
 use journal_costs::{cost_of_entry, cost_of_load};
@@ -75,7 +79,7 @@ impl Model for Authority {
 
 impl Authority {
     ghost use Rattle.authority_model.specs.Entering.{AreAllowed, is_full};
-    ghost use Rattle.authority_core.specs.Refusals.{IsStepRefused, IsLoadRefused};
+    ghost use Rattle.authority_core.specs.Refusals.{IsStepRefused, IsLoadRefused, IsCollectRefused};
 
     /// An authority whose journal is empty.
     pub fn start(alloc: Global, limits: Limits) -> Result<Authority, NoMemory>
@@ -156,6 +160,28 @@ impl Authority {
                 event,
             });
         }
+        match self.append(caller, moment, salt, event) {
+            Ok(place) => Ok(place),
+            Err(event) => Err(StepRefused::NoMemory { event }),
+        }
+    }
+
+    /// Adds the entry of an event that is not a load, where there is room for it, and answers its place.
+    /// A refusal gives the event back, and leaves the authority as it was.
+    fn append(&mut self, caller: u32, moment: u64, salt: u128, event: Event) -> Result<u64, Event>
+        requires room { is_full self.old.limits (items_of self.old.history) ≡ false }
+        requires event { IsProperEvent (event_given caller moment salt event) event }
+        requires moment { moment ≤ 2 ^ 62 }
+        ensures place { IfOk result (λ place. place ≡ length self.old.history.entries) }
+        ensures grows { OnOk result (Grows self.old.history self.new.history (event_given caller moment salt event)) }
+        ensures entry { OnOk result (self.new.history.entries ≡ self.old.history.entries ++ (next (items_of self.old.history) (event_given caller moment salt event)).entry ∷ []) }
+        ensures loads { OnOk result (self.new.history.loads ≡ self.old.history.loads) }
+
+        ensures limits { self.new.limits ≡ self.old.limits }
+        ensures err { OnErr result (self.new ≡ self.old) }
+        ensures legal { IsLegal self.new.history }
+        ensures back { IfErr result (λ back. back ≡ event) }
+    {
         let loads = self.history.loads.len() as u32;
         let in_force = load_in_force(self.history.loads.as_slice(), &self.empty);
         let moment = self.moment.max(moment);
@@ -170,7 +196,7 @@ impl Authority {
             &event,
         ) {
             Ok(outputs) => outputs,
-            Err(NoMemory) => return Err(StepRefused::NoMemory { event }),
+            Err(NoMemory) => return Err(event),
         };
         let entry = Entry {
             caller,
@@ -193,7 +219,69 @@ impl Authority {
                 self.moment = moment;
                 Ok(place as u64)
             }
-            Err(entry) => Err(StepRefused::NoMemory { event: entry.event }),
+            Err(entry) => Err(entry.event),
+        }
+    }
+
+    /// How many outputs the journal has to a connection.
+    pub fn sent_count(&self, caller: u32) -> u64
+        ensures count { result ≡ sent (items_of self.now.history) caller }
+    {
+        self.state.sent.count(caller)
+    }
+
+    /// The output that has this number among those to a connection, counted from 1. `None` exactly
+    /// where the number is 0 or above `sent_count`.
+    pub fn output_to(&self, caller: u32, number: u64) -> Option<&Output>
+        ensures output { option_copied result ≡ numbered_output (items_of self.now.history) caller number }
+    {
+        let before = number.checked_sub(1)?;
+        output_to(&self.history, &self.state, caller, before)
+    }
+
+    /// Whether a caller may collect the outputs to a connection: there is one that it has not collected,
+    /// or the connection has departed. What one caller collects takes nothing from another.
+    pub fn ready(&self, caller: u32, of: u32) -> bool
+        ensures ready { result ≡ is_ready (items_of self.now.history) caller of }
+    {
+        let collected = self.state.collections.count(caller, of);
+        let sent = self.state.sent.count(of);
+        collected < sent || self.state.connections.is_departed(of)
+    }
+
+    /// Adds the entry of a Collect, and answers the outputs to a connection that the caller has not
+    /// collected, with the loads that they name. None are left exactly where the connection has
+    /// departed and the caller has collected all.
+    ///
+    /// The entry has the greatest moment handed in so far and the salt 0. The time that it takes grows
+    /// with what is answered, and not with the journal.
+    ///
+    /// # Errors
+    /// 1 `JournalFull` as for `step`; 2 `NoMemory`. Both leave the authority as it was.
+    pub fn collect(&mut self, caller: u32, of: u32) -> Result<Batch, CollectStepRefused>
+        requires ready { is_ready (items_of self.old.history) caller of ≡ true }
+        ensures batch { IfOk result (λ b. IsBatch (items_of self.old.history) caller of b.from b.outputs b.loads) }
+        ensures grows { OnOk result (Grows self.old.history self.new.history (collect_given caller of)) }
+
+        ensures limits { self.new.limits ≡ self.old.limits }
+        ensures err { OnErr result (self.new ≡ self.old) }
+        ensures legal { IsLegal self.new.history }
+        ensures within { OnOk result (is_full self.old.limits (items_of self.old.history) ≡ false) }
+        ensures refused { IfErr result (IsCollectRefused self.old) }
+    {
+        if self.is_full() {
+            return Err(CollectStepRefused::JournalFull {
+                entries: self.history.entries.len() as u64,
+                bytes: self.bytes,
+            });
+        }
+        let batch = match batch_of(self.alloc, &self.history, &self.state, caller, of) {
+            Ok(batch) => batch,
+            Err(NoMemory) => return Err(CollectStepRefused::NoMemory),
+        };
+        match self.append(caller, 0, 0, Event::Collect { of }) {
+            Ok(_) => Ok(batch),
+            Err(_) => Err(CollectStepRefused::NoMemory),
         }
     }
 

@@ -7,6 +7,10 @@
 #![tactic(auto)]
 
 mod authority;
+mod collecting;
+#[cfg(test)]
+mod collecting_tests;
+mod copies;
 mod entering;
 #[cfg(test)]
 mod full_tests;
@@ -15,3 +19,4 @@ mod tests;
 
 pub use authority::{Authority, LoadStepRefused, StepRefused};
 pub use authority_model::Limits;
+pub use collecting::{Batch, CollectStepRefused};
