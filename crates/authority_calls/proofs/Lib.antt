@@ -1,3 +1,4 @@
 pub mod Behind
 pub mod Many
 pub mod Said
+mod EventExamples

@@ -106,8 +106,8 @@ another rest (Some x) = rest >>= λ xs. given (x ∷ xs)
 
 -- items up to the first place where there is none; at most n
 unfoldable pub many : {A : Type 0} → ℕ → Reading (Option A) → Reading (List A)
-many zero item = out_of_form
-many (suc n) item = item >>= another (many n item)
+many zero item parts = None
+many (suc n) item parts = go_on (another (many n item)) (item parts)
 
 -- what a function returned, seen by view, is the value that is due, and want of memory is free
 abbrev pub GivesAs : {X Y : Type 0} → (X → Y) → Result X ArgumentFault → Option Y → Type 0

@@ -96,8 +96,11 @@ fn call_of(alloc: Global, message: &WireMessage) -> Result<Call, NoMemory>
     }
 }
 
-/// The name of an error.
-fn error_name(alloc: Global, name: Option<&[u8]>) -> Result<Text, NoMemory>
+/// The name of an error. A name of more than 65,535 bytes is taken as the empty name.
+///
+/// # Errors
+/// `NoMemory` alone.
+pub fn error_name(alloc: Global, name: Option<&[u8]>) -> Result<Text, NoMemory>
     ensures exact { IfOk result (λ text. text ≡ error_name (option_map (λ b. b.now) name.entry)) }
 {
     match name {
