@@ -1,7 +1,9 @@
 pub mod Loops
 pub mod Texts
 pub mod Stack
+pub mod Slots
 pub mod Steps
+pub mod Bytes
 pub mod Numbers
 pub mod Leaves
 pub mod Walking
@@ -23,3 +25,4 @@ pub mod Sending
 pub mod Sizes
 pub mod Building
 pub mod TextForm
+pub mod Fewer

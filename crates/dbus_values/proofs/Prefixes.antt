@@ -18,7 +18,7 @@ use Rattle.dbus_values.specs.Told.{IfTold}
 -- ---- the first 16 bytes
 
 -- a judgement of the first bytes stays, unless they are too few for it
-abbrev Stays : {A : Type 0} → Result A Stop → Result A Stop → Type 0
+abbrev pub Stays : {A : Type 0} → Result A Stop → Result A Stop → Type 0
 Stays (Ok x) later = later ≡ Ok x
 Stays (Err stop.Partial) later = Unit {0}
 Stays (Err (stop.Bad e)) later = later ≡ Err (stop.Bad e)
@@ -75,7 +75,7 @@ fields_stay : (big : Bool) (body : ℕ) (bytes more : List ℕ) → Stays (field
 unfolding fields_of
 fields_stay big body bytes more = needs_stay 16 bytes more _ _ (λ le. ap (λ (n : ℕ). cond (ltb 16777216 (16 + (n + gap 8 n) + body)) (wrong fault.Length 12) (Ok n)) (u32_stays big bytes more 12 (omega arith)))
 
-start_stays : (bytes more : List ℕ) → Stays (start_of bytes) (start_of (bytes ++ more))
+pub start_stays : (bytes more : List ℕ) → Stays (start_of bytes) (start_of (bytes ++ more))
 unfolding start_of
 start_stays bytes more =
     bind_stays _ _ _ _ (order_stays bytes more) (λ big.

@@ -10,9 +10,11 @@ pub mod Messages
 pub mod Starts
 pub mod Next
 pub mod Trees
+pub mod Known
 pub mod Form
 pub mod Streams
 pub mod Told
 pub mod Written
 pub mod Capped
 pub mod Values
+pub mod Awaiting

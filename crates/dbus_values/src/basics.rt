@@ -28,16 +28,25 @@ fn zeros(n: usize, from: Cursor) -> Result<Cursor, Fault>
 }
 
 /// How far it is from a place to the next multiple of n.
+#[inline(always)]
 pub fn gap(n: usize, at: usize) -> usize
     requires low { 0 < n }
     requires high { n ≤ 8 }
     ensures exact { result ≡ gap n at }
     ensures small { result < 8 }
 {
-    (n - at % n) % n
+    // a divisor that is known spares a division
+    match n {
+        1 => (1 - at % 1) % 1,
+        2 => (2 - at % 2) % 2,
+        4 => (4 - at % 4) % 4,
+        8 => (8 - at % 8) % 8,
+        _ => (n - at % n) % n,
+    }
 }
 
 /// What follows the padding up to the next multiple of n.
+#[inline(always)]
 pub fn pad(n: usize, from: Cursor) -> Result<Cursor, Fault>
     requires low { 0 < n }
     requires high { n ≤ 8 }

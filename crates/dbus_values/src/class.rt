@@ -35,6 +35,7 @@ pub enum Class {
 
 impl Class {
     /// The class of the type that begins with a letter.
+    #[inline(always)]
     pub fn of(letter: u8) -> Class
         ensures class { result ≡ class_of letter }
     {
@@ -56,6 +57,7 @@ impl Class {
     }
 
     /// Whether the key of a dict entry may have such a type.
+    #[inline(always)]
     pub fn is_basic(self) -> bool
         ensures basic { result ≡ is_basic self }
     {
@@ -66,6 +68,7 @@ impl Class {
     }
 
     /// The alignment of the values of a class, in bytes.
+    #[inline(always)]
     pub fn align(self) -> usize
         ensures exact { result ≡ align_of self }
         ensures low { 0 < result }

@@ -2,7 +2,9 @@
 ghost use Rattle.std.specs.Prelude.{◌≡◌, ◌<◌, ◌∷◌, length, [], IfSome};
 ghost use Rattle.std.specs.Option.{option_map};
 ghost use Rattle.dbus_values.specs.Opened.{opened, innermost, outer, IsWithin};
+ghost use Rattle.dbus_values.specs.Signatures.{after_item};
 
+use crate::known_items::KnownItems;
 use std::marker::Model;
 
 /// A container that is open, with what comes behind it.
@@ -30,11 +32,24 @@ pub enum Frame<'a> {
     },
 }
 
+impl<'a> Frame<'a> {
+    /// How many letters of the signatures at hand stand behind this container.
+    fn letters(&self) -> usize {
+        match self {
+            Frame::Items { types, .. } => types.len(),
+            Frame::Inner { types } => types.len(),
+            Frame::Members | Frame::Key | Frame::Value | Frame::Closing => 0,
+        }
+    }
+}
+
 /// At most 64 open containers, seen as a list, the innermost first.
 #[derive(Drop)]
 pub struct Frames<'a> {
     frames: [Frame<'a>; 64],
     len: usize,
+    letters: usize,
+    known: KnownItems<'a>,
 }
 
 impl<'a> Model for Frames<'a> {
@@ -56,10 +71,30 @@ impl<'a> Frames<'a> {
         Frames {
             frames: [Frame::Members; 64],
             len: 0,
+            letters: 0,
+            known: KnownItems::new(),
         }
     }
 
+    /// Closes all.
+    pub fn clear(&mut self)
+        ensures empty { self.new ≡ [] }
+    {
+        self.len = 0;
+        self.letters = 0;
+    }
+
+    /// What follows the item of an array. The letters behind the open containers tell the place.
+    pub fn after_item(&mut self, sig: &'a [u8]) -> Option<&'a [u8]>
+        ensures exact { option_map (λ rest. rest.now) result ≡ after_item sig.now }
+        ensures same { self.new ≡ self.old }
+    {
+        let place = self.letters.wrapping_add(sig.len());
+        self.known.after_item(place, sig)
+    }
+
     /// How many are open.
+    #[inline(always)]
     pub fn len(&self) -> usize
         ensures length { result ≡ length self.now }
     {
@@ -67,16 +102,19 @@ impl<'a> Frames<'a> {
     }
 
     /// Opens one more.
+    #[inline(always)]
     pub fn push(&mut self, frame: Frame<'a>)
         requires room { length self.old < 64 }
         requires within { IsWithin frame }
         ensures opened { self.new ≡ opened frame.entry ∷ self.old }
     {
+        self.letters = self.letters.wrapping_add(frame.letters());
         self.frames[self.len] = frame;
         self.len += 1;
     }
 
     /// The innermost.
+    #[inline(always)]
     pub fn top(&self) -> Option<Frame<'a>>
         ensures innermost { option_map opened result ≡ innermost self.now }
         ensures within { IfSome result IsWithin }
@@ -89,12 +127,14 @@ impl<'a> Frames<'a> {
     }
 
     /// Closes the innermost.
+    #[inline(always)]
     pub fn pop(&mut self)
         ensures outer { self.new ≡ outer self.old }
         ensures room { length self.new < 64 }
     {
         if self.len > 0 {
             self.len -= 1;
+            self.letters = self.letters.wrapping_sub(self.frames[self.len].letters());
         }
     }
 }

@@ -1,6 +1,7 @@
 // Laws about the form of values and messages. Each is the contract of a function that does nothing.
 ghost use Rattle.std.specs.Prelude.{◌≡◌, ◌+◌, ◌<◌, ◌≤◌, ℕ, Bool, List, ◌++◌, length, take, Ok};
 ghost use Rattle.dbus_values.specs.declared.fault.FaultKind.{FaultKind};
+ghost use Rattle.dbus_values.specs.Awaiting.{awaited};
 ghost use Rattle.dbus_values.specs.Reading.{spot_at};
 ghost use Rattle.dbus_values.specs.Walk.{Walked, walked, values_at};
 ghost use Rattle.dbus_values.specs.Trees.{Trees, types_of, all_marshalled, all_pieces, AllFit};
@@ -46,4 +47,11 @@ pub fn a_shorter_text_is_partial()
     ensures message { (bytes : List ℕ) (seen : Seen) (used n : ℕ) → next_of bytes ≡ Whole seen used → n < used → next_of (take n bytes) ≡ Partial }
     ensures shorter { (bytes more : List ℕ) → next_of (bytes ++ more) ≡ Partial → next_of bytes ≡ Partial }
     ensures short { (bytes : List ℕ) → next_of bytes ≡ Partial → length bytes < 16777216 }
+{}
+
+/// What is less than a message is shorter than what is awaited, and stays less than a message until
+/// as many bytes are there as are awaited.
+pub fn fewer_than_awaited()
+    ensures more { (bytes : List ℕ) → next_of bytes ≡ Partial → length bytes < awaited bytes }
+    ensures partial { (bytes more : List ℕ) → next_of bytes ≡ Partial → length (bytes ++ more) < awaited bytes → next_of (bytes ++ more) ≡ Partial }
 {}

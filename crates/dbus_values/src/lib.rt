@@ -5,6 +5,7 @@
 //! parts of a message's body one by one. [`write_message`] writes a [`WireOut`], little-endian.
 #![tactic(auto)]
 
+mod awaiting;
 mod basics;
 mod bodies;
 mod class;
@@ -14,6 +15,7 @@ mod fault;
 mod fields;
 mod frames;
 mod header;
+mod known_items;
 pub mod laws;
 mod message;
 mod part;
@@ -29,6 +31,7 @@ mod wire_message;
 mod wire_out;
 mod write;
 
+pub use awaiting::awaited;
 pub use fault::FaultKind;
 pub use message::{Next, next_message};
 pub use part::Part;

@@ -7,7 +7,7 @@ ghost use Rattle.dbus_values.specs.Walk.{state, parts, Lasts};
 use crate::cursor::Cursor;
 use crate::frames::Frames;
 use crate::part::Part;
-use crate::walk::next_in;
+use crate::walk::next_part;
 use std::marker::Model;
 
 /// The parts of a message's body that have not been given yet. It takes no memory.
@@ -55,7 +55,7 @@ impl<'a> Parts<'a> {
         if self.left == 0 {
             return None;
         }
-        match next_in(64, self.big, &mut self.frames, self.types, self.here) {
+        match next_part(64, self.big, &mut self.frames, self.types, self.here) {
             Ok((part, types, here)) => {
                 self.types = types;
                 self.here = here;

@@ -1,5 +1,5 @@
 // Signatures.
-ghost use Rattle.std.specs.Prelude.{◌≡◌, ◌<◌, ◌≤◌, length};
+ghost use Rattle.std.specs.Prelude.{◌≡◌, ◌<◌, ◌≤◌, ◌-◌, length, take};
 ghost use Rattle.std.specs.Option.{option_map};
 ghost use Rattle.dbus_values.specs.Signatures.{behind, members_end, item_end, entry_end, type_end, after_type, after_item, are_types, is_signature, item_align};
 
@@ -117,6 +117,13 @@ pub fn after_item(sig: &[u8]) -> Option<&[u8]>
     ensures exact { option_map (λ rest. rest.now) result ≡ after_item sig.now }
 {
     item_end(65, 32, 32, sig)
+}
+
+/// The front of a signature before its rest.
+pub fn front_of<'a>(sig: &'a [u8], end: &[u8]) -> &'a [u8]
+    ensures front { result.now ≡ take (length sig.now - length end.now) sig.now }
+{
+    &sig[..sig.len().saturating_sub(end.len())]
 }
 
 /// Whether the bytes are a row of complete types.

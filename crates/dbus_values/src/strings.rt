@@ -158,6 +158,7 @@ fn number_part<'a>(kind: u8, value: u64) -> Part<'a>
 }
 
 /// A value of a basic type, from its first byte.
+#[inline(always)]
 #[tactic(auto, unfolding(crate::specs::Basics::leaf_at))]
 pub fn leaf_at(class: Class, big: bool, kind: u8, from: Cursor) -> Result<(Part, Cursor), Fault>
     ensures exact { Gives (λ x. (piece x.0, spot x.1)) result (leaf_at class big kind from.entry.at from.entry.rest.now) }

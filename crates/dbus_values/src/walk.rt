@@ -1,8 +1,9 @@
 // A walk over values, part by part.
-ghost use Rattle.std.specs.Prelude.{◌≡◌, ◌<◌, ◌≤◌, ◌+◌, ◌-◌, ◌∷◌, [], Ok, Err, MatchResult, length, take};
+ghost use Rattle.std.specs.Prelude.{◌≡◌, ◌<◌, ◌≤◌, ◌+◌, ◌-◌, ◌∷◌, [], Ok, Err, MatchResult, IfSome, length, take, drop, slice_index};
 ghost use Rattle.std.specs.Option.{option_map};
 ghost use Rattle.dbus_values.specs.Reading.{Gives};
 ghost use Rattle.dbus_values.specs.Parts.{piece, spot};
+ghost use Rattle.dbus_values.specs.Parts as part;
 ghost use Rattle.dbus_values.specs.Opened as opened_part;
 ghost use Rattle.dbus_values.specs.Signatures.{after_item, after_type};
 ghost use Rattle.dbus_values.specs.Walk.{State, state, rest_of, resume, resumed, enter_array, enter_struct, enter_variant, enter_by, enter, enter_entry, enter_item, in_items, in_members, in_key, in_closing, next_in, walked, values_at};
@@ -14,7 +15,7 @@ use crate::cursor::{Cursor, behind_first};
 use crate::fault::{Fault, FaultKind};
 use crate::frames::{Frame, Frames};
 use crate::part::Part;
-use crate::signature::{after_item, after_type, item_align};
+use crate::signature::{after_type, front_of, item_align};
 use crate::strings::{leaf_at, signature_at};
 
 /// A part, the types that are left behind it, and the place behind it.
@@ -39,16 +40,18 @@ pub fn rest_of(sig: &[u8], at: usize) -> Result<&[u8], Fault>
 }
 
 /// What follows the item of an array, or a fault.
-fn rest_of_item(sig: &[u8], at: usize) -> Result<&[u8], Fault>
+fn rest_of_item<'a>(frames: &mut Frames<'a>, sig: &'a [u8], at: usize) -> Result<&'a [u8], Fault>
     ensures exact { Gives (λ x. x.now) result (rest_of (after_item sig.now) at) }
+    ensures same { frames.new ≡ frames.old }
 {
-    match after_item(sig) {
+    match frames.after_item(sig) {
         Some(rest) => Ok(rest),
         None => Err(Fault::new(FaultKind::Text, at)),
     }
 }
 
 /// Closes the variants whose value ends here, and gives the types that are left behind them.
+#[inline(always)]
 #[tactic(auto, using(crate::proofs::Steps::resume_rules))]
 fn resume<'a>(frames: &mut Frames<'a>, types: &'a [u8], at: usize) -> Result<&'a [u8], Fault>
     ensures exact { MatchResult result
@@ -79,6 +82,7 @@ fn resume<'a>(frames: &mut Frames<'a>, types: &'a [u8], at: usize) -> Result<&'a
 }
 
 /// A part that ends a value, and what the walk goes on with behind it.
+#[inline(always)]
 #[tactic(auto, unfolding(crate::specs::Walk::resumed))]
 fn resumed<'a>(
     frames: &mut Frames<'a>,
@@ -92,13 +96,6 @@ fn resumed<'a>(
 {
     let types = resume(frames, types, from.at)?;
     Ok((part, types, from))
-}
-
-/// The front of a signature before its rest.
-fn front_of<'a>(sig: &'a [u8], end: &[u8]) -> &'a [u8]
-    ensures front { result.now ≡ take (length sig.now - length end.now) sig.now }
-{
-    &sig[..sig.len().saturating_sub(end.len())]
 }
 
 /// No type.
@@ -121,7 +118,7 @@ fn enter_array<'a>(
         (λ x. enter_array big frames.old sig.now from.entry.at from.entry.rest.now ≡ Ok (piece x.0, state frames.new x.1.now x.2.at x.2.rest.now))
         (λ e. enter_array big frames.old sig.now from.entry.at from.entry.rest.now ≡ Err e) }
 {
-    let end = rest_of_item(sig, from.at)?;
+    let end = rest_of_item(frames, sig, from.at)?;
     let (n, rest) = u32_at(big, from)?;
     let n = n as usize;
     let align = item_align(sig);
@@ -190,6 +187,7 @@ fn enter_variant<'a>(
 
 /// The first part of a value, from its first byte. At most `limit` containers stand inside each
 /// other.
+#[inline(always)]
 fn enter_by<'a>(
     class: Class,
     limit: usize,
@@ -243,6 +241,7 @@ fn enter_by<'a>(
 }
 
 /// The first part of the value of the first type, with the padding before it.
+#[inline(always)]
 #[tactic(auto, using(crate::proofs::Steps::enter_rules))]
 fn enter<'a>(
     limit: usize,
@@ -287,6 +286,7 @@ fn enter_entry<'a>(
 }
 
 /// The first part of an item of an array.
+#[inline(always)]
 #[tactic(auto, using(crate::proofs::Steps::item_rules))]
 fn enter_item<'a>(
     limit: usize,
@@ -311,6 +311,7 @@ fn enter_item<'a>(
 }
 
 /// The next member of a structure, or its end.
+#[inline(always)]
 #[tactic(auto, using(crate::proofs::Steps::members_rules))]
 fn in_members<'a>(
     limit: usize,
@@ -337,6 +338,7 @@ fn in_members<'a>(
 }
 
 /// The key of a dict entry, which has a basic type.
+#[inline(always)]
 #[tactic(auto, using(crate::proofs::Steps::key_rules))]
 fn in_key<'a>(
     limit: usize,
@@ -364,6 +366,7 @@ fn in_key<'a>(
 }
 
 /// The end of a dict entry.
+#[inline(always)]
 #[tactic(auto, using(crate::proofs::Steps::closing_rules))]
 fn in_closing<'a>(
     frames: &mut Frames<'a>,
@@ -386,6 +389,7 @@ fn in_closing<'a>(
 }
 
 /// The next item of an array, or its end.
+#[inline(always)]
 #[tactic(auto, unfolding(crate::specs::Walk::in_items))]
 fn in_items<'a>(
     limit: usize,
@@ -419,8 +423,9 @@ fn in_items<'a>(
 }
 
 /// The next part.
+#[inline(always)]
 #[tactic(auto, using(crate::proofs::Steps::next_rules))]
-pub fn next_in<'a>(
+fn next_in<'a>(
     limit: usize,
     big: bool,
     frames: &mut Frames<'a>,
@@ -465,6 +470,79 @@ pub fn next_in<'a>(
     }
 }
 
+/// A byte, the types that are left behind it, and the place behind it.
+#[inline(always)]
+fn byte_step<'a>(left: &'a [u8], from: Cursor<'a>) -> Step<'a>
+    requires { 1 ≤ length from.rest.now }
+    ensures part { piece result.0 ≡ part.Number 121 (slice_index from.entry.rest.now 0) }
+    ensures left { result.1.now ≡ left.now }
+    ensures at { result.2.at ≡ from.entry.at + 1 }
+    ensures rest { result.2.rest.now ≡ drop 1 from.entry.rest.now }
+{
+    let value = u64::from(from.rest[0]);
+    (Part::Number { kind: b'y', value }, left, from.ahead(1))
+}
+
+/// The next part where it is a byte in an array or in a structure, of which a body can have most.
+#[inline(always)]
+#[tactic(auto, using(crate::proofs::Bytes::byte_rules))]
+fn next_byte<'a>(
+    limit: usize,
+    big: bool,
+    frames: &Frames<'a>,
+    sig: &'a [u8],
+    from: Cursor<'a>,
+) -> Option<Step<'a>>
+    ensures exact { IfSome result (λ x. next_in limit big frames.now sig.now from.entry.at from.entry.rest.now ≡ Ok (piece x.0, state frames.now x.1.now x.2.at x.2.rest.now)) }
+{
+    if from.rest.is_empty() {
+        return None;
+    }
+    match frames.top() {
+        None => None,
+        Some(frame) => match frame {
+            Frame::Items { item, .. } => {
+                if sig.is_empty() && item.len() == 1 && item[0] == b'y' {
+                    Some(byte_step(sig, from))
+                } else {
+                    None
+                }
+            }
+            Frame::Members => {
+                if !sig.is_empty() && sig[0] == b'y' {
+                    Some(byte_step(behind_first(sig), from))
+                } else {
+                    None
+                }
+            }
+            Frame::Key => None,
+            Frame::Value => None,
+            Frame::Closing => None,
+            Frame::Inner { .. } => None,
+        },
+    }
+}
+
+/// The next part, found in short where it is a byte.
+#[inline(always)]
+pub fn next_part<'a>(
+    limit: usize,
+    big: bool,
+    frames: &mut Frames<'a>,
+    sig: &'a [u8],
+    from: Cursor<'a>,
+) -> Result<Step<'a>, Fault>
+    requires { limit ≤ 64 }
+    ensures exact { MatchResult result
+        (λ x. next_in limit big frames.old sig.now from.entry.at from.entry.rest.now ≡ Ok (piece x.0, state frames.new x.1.now x.2.at x.2.rest.now))
+        (λ e. next_in limit big frames.old sig.now from.entry.at from.entry.rest.now ≡ Err e) }
+{
+    match next_byte(limit, big, frames, sig, from) {
+        Some(step) => Ok(step),
+        None => next_in(limit, big, frames, sig, from),
+    }
+}
+
 /// More parts than any message has.
 const MOST_PARTS: usize = 4294967296;
 
@@ -474,20 +552,21 @@ const MOST_PARTS: usize = 4294967296;
 pub fn values_at<'a>(
     limit: usize,
     big: bool,
+    frames: &mut Frames<'a>,
     signature: &'a [u8],
     from: Cursor<'a>,
 ) -> Result<(usize, Cursor<'a>), Fault>
     requires { limit ≤ 64 }
     ensures exact { Gives (λ x. walked x.0 (spot x.1)) result (values_at limit big signature.now from.entry.at from.entry.rest.now) }
 {
-    let mut frames = Frames::new();
+    frames.clear();
     let mut types = signature;
     let mut here = from;
     for i in 0..MOST_PARTS {
         if frames.len() == 0 && types.is_empty() {
             return Ok((i, here));
         }
-        let (_, left, after) = next_in(limit, big, &mut frames, types, here)?;
+        let (_, left, after) = next_part(limit, big, frames, types, here)?;
         types = left;
         here = after;
     }
