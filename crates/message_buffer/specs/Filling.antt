@@ -1,5 +1,5 @@
 -- What a buffer that is filled from a source holds.
-use Rattle.std.specs.Prelude.{◌≡◌, ℕ, ◌≤◌, Bool, IsTrue, List, [], ◌++◌, length, Option, Result, Ok, Err}
+use Rattle.std.specs.Prelude.{◌≡◌, ℕ, ◌<◌, ◌≤◌, Bool, IsTrue, List, [], ◌++◌, length, Option, Result, Ok, Err}
 use Rattle.pk_outside.specs.Causes.{FailsLast}
 use Rattle.message_buffer.specs.declared.buffer.Filled.{Filled}
 use Rattle.message_buffer.specs.declared.buffer.Filled.TheVariants as filled
@@ -13,11 +13,11 @@ Brings before piece now (Err unread.Failed) = (now ≡ before) × (piece ≡ [])
 Brings before piece now (Err unread.NoMemory) = Unit {0}
 
 -- What was read stands behind what was there before: as much as was awaited, or all up to the end of the
--- source or to its fault. Where memory is refused it is lost.
+-- source or to its fault, which is less. Where memory is refused it is lost.
 abbrev pub Fills : Bool → ℕ → List ℕ → List ℕ → List ℕ → Filled → Type 0
 Fills ended wanted before read now filled.There = (now ≡ before ++ read) × (wanted ≤ length now)
-Fills ended wanted before read now filled.End = (now ≡ before ++ read) × IsTrue ended
-Fills ended wanted before read now filled.ReadFault = now ≡ before ++ read
+Fills ended wanted before read now filled.End = (now ≡ before ++ read) × (length now < wanted) × IsTrue ended
+Fills ended wanted before read now filled.ReadFault = (now ≡ before ++ read) × (length now < wanted)
 Fills ended wanted before read now filled.NoMemory = Unit {0}
 
 -- A read fault was counted by the last read, and by no read before it. Every other answer leaves the

@@ -1,5 +1,5 @@
 // A source in pieces of each size gives the same.
-use crate::{Filled, MessageBuffer, awaited};
+use crate::{Filled, MessageBuffer};
 use pk_outside::ByteSource;
 use std::test::Fail;
 
@@ -17,12 +17,4 @@ fn bytes_come_in_any_pieces(rt: HostRuntime) -> Result<(), Fail> {
         assert_eq!(rt; buffer.bytes(), b"cdefgh".as_slice());
     }
     Ok(())
-}
-
-#[test]
-fn message_is_awaited_whole(rt: HostRuntime) {
-    assert!(rt; awaited(b"") == 1);
-    assert!(rt; awaited(b"l\x01\0\x01\x02\0\0\0\x01\0\0\0\x09\0\0") == 16);
-    assert!(rt; awaited(b"l\x01\0\x01\x02\0\0\0\x01\0\0\0\x09\0\0\0") == 34);
-    assert!(rt; awaited(b"B\x01\0\x01\0\0\0\x02\0\0\0\x01\0\0\0\x09") == 34);
 }
