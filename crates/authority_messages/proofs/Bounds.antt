@@ -30,7 +30,7 @@ string_within t n le at = omega (arith, text_bytes_size at t)
 path_within : (t : Bytes) (n : ℕ) → length t ≤ n → Within (n + 8) (trees.Text 111 t)
 path_within t n le at = omega (arith, text_bytes_size at t)
 
-number_within : (m : ℕ) → Within 7 (trees.Number 117 m)
+pub number_within : (m : ℕ) → Within 7 (trees.Number 117 m)
 number_within m at = omega (arith, length-append (padding (gap 4 at)) (bytes_of false w32 m), length-padding (gap 4 at), wide32.len false m)
 
 signature_within : (t : Bytes) (n : ℕ) → length t ≤ n → Within (n + 2) (trees.Text 103 t)

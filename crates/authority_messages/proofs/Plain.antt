@@ -15,7 +15,7 @@ use Rattle.authority_model.specs.Cookies.{hex, hex_digit, cookie_text, grant_tex
 use Rattle.authority_messages.specs.Plain.{is_ascii_text, is_plain}
 
 -- no byte is 0
-abbrev NoZero : List ℕ → Type 0
+abbrev pub NoZero : List ℕ → Type 0
 NoZero [] = Unit {0}
 NoZero (b ∷ bytes) = (b ≢ 0) × NoZero bytes
 
@@ -44,7 +44,7 @@ no_bad bytes utf8 none =
     same : (n : ℕ) → (if nat_lt n n then Some n else None) ≡ None
     same n = grind (arith, nat_tests)
 
-text_of : (bytes : List ℕ) → IsUtf8 bytes → NoZero bytes → length bytes ≤ 65535 → IsText bytes
+pub text_of : (bytes : List ℕ) → IsUtf8 bytes → NoZero bytes → length bytes ≤ 65535 → IsText bytes
 text_of bytes utf8 none fits = of (length bytes) fits (text_bad bytes) (no_bad bytes utf8 none)
   where
     of : (n : ℕ) → n ≤ 65535 → (o : Option ℕ) → o ≡ None → (if nat_lt 65535 n then Some (fault.TooLong n) else bad_byte_fault o) ≡ None

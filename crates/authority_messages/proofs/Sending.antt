@@ -40,14 +40,14 @@ call_same flags p p' i i' m m' ts ts' a b c d =
     ap (λ (x : Bytes). call_at flags x i m ts) a ∙ ap (λ (x : Bytes). call_at flags p' x m ts) b ∙ ap (λ (x : Bytes). call_at flags p' i' x ts) c ∙ ap (λ (x : List Tree). call_at flags p' i' m' x) d
 
 -- the fields of a member
-members_within : (path interface member : Bytes) (rest : List Field) (m : ℕ) → length path ≤ 65535 → length interface ≤ 64 → length member ≤ 32 → FieldsWithin m rest
+pub members_within : (path interface member : Bytes) (rest : List Field) (m : ℕ) → length path ≤ 65535 → length interface ≤ 64 → length member ≤ 32 → FieldsWithin m rest
     → FieldsWithin (65554 + (83 + (51 + m))) (record { code = 1; value = trees.Text 111 path } ∷ record { code = 2; value = trees.Text 115 interface } ∷ record { code = 3; value = trees.Text 115 member } ∷ rest)
 members_within path interface member rest m path-short interface-short member-short within =
     path_field 65535 (83 + (51 + m)) path (record { code = 2; value = trees.Text 115 interface } ∷ record { code = 3; value = trees.Text 115 member } ∷ rest) path-short
     (string_field 64 (51 + m) 2 interface (record { code = 3; value = trees.Text 115 member } ∷ rest) interface-short
     (string_field 32 m 3 member rest member-short within))
 
-sig_within : (sig : Bytes) (n : ℕ) → length sig ≤ n → FieldsWithin (n + 13 + 0) (record { code = 8; value = trees.Text 103 sig } ∷ [])
+pub sig_within : (sig : Bytes) (n : ℕ) → length sig ≤ n → FieldsWithin (n + 13 + 0) (record { code = 8; value = trees.Text 103 sig } ∷ [])
 sig_within sig n le = signature_field n 0 sig [] le fields_none
 
 pub cancel_sent : (path : Bytes) (cookie : Cookie) → IsText path → IsText (cookie_text cookie) → length (cookie_text cookie) ≤ 53 → IsSent (cancel path cookie)
@@ -69,7 +69,7 @@ changed_sent serial some small =
     (lit≤ tt))
 
 -- the error in place of a reply that is too long
-error_fields_within : (answered : ℕ) (name : Bytes) → length name ≤ 64
+pub error_fields_within : (answered : ℕ) (name : Bytes) → length name ≤ 64
     → FieldsWithin (83 + (18 + 14)) (record { code = 4; value = trees.Text 115 name } ∷ record { code = 5; value = trees.Number 117 answered } ∷ record { code = 8; value = trees.Text 103 (codes "s") } ∷ [])
 error_fields_within answered name short =
     string_field 64 (18 + 14) 4 name (record { code = 5; value = trees.Number 117 answered } ∷ record { code = 8; value = trees.Text 103 (codes "s") } ∷ []) short

@@ -1,4 +1,5 @@
-//! The D-Bus messages that the authority sends: one for each of its outputs.
+//! The D-Bus messages that the authority sends: one for each of its outputs. The builders of values
+//! and messages are the client's too.
 #![tactic(auto)]
 
 mod actions;
@@ -7,17 +8,18 @@ mod containers;
 mod details;
 mod grants;
 pub mod laws;
-mod limits;
+pub mod limits;
 mod lists;
 mod message;
-mod outgoing;
-mod pairs;
-mod replies;
-mod subjects;
+pub mod outgoing;
+pub mod pairs;
+pub mod replies;
+pub mod subjects;
 #[cfg(test)]
 mod tests;
-mod texts;
-mod values;
+pub mod texts;
+pub mod values;
 mod verdict;
 
+pub use calls::AGENT;
 pub use message::message_of;

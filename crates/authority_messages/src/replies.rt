@@ -54,8 +54,11 @@ pub fn returning(alloc: Global, answered: u32, value: Value) -> Result<WireOut, 
     Ok(return_to(answered, body))
 }
 
-/// An error with a text.
-fn refusal(alloc: Global, answered: u32, name: &str, text: &str) -> Result<WireOut, NoMemory>
+/// An error with a text. The name and the text are of ASCII and have at most 65,535 bytes each.
+///
+/// # Errors
+/// `NoMemory` alone.
+pub fn refusal(alloc: Global, answered: u32, name: &str, text: &str) -> Result<WireOut, NoMemory>
     requires answered { 0 < answered }
     requires name { IsTrue (is_plain name.now) }
     requires text { IsTrue (is_plain text.now) }

@@ -38,7 +38,7 @@ fn known_by(alloc: Global, kind: &str, entries: ValueList) -> Result<Value, NoMe
 }
 
 /// A kind that is known by one entry.
-fn known_by_one(alloc: Global, kind: &str, key: &str, value: Value) -> Result<Value, NoMemory>
+pub fn known_by_one(alloc: Global, kind: &str, key: &str, value: Value) -> Result<Value, NoMemory>
     requires kind { IsTrue (is_plain kind.now) }
     requires key { IsTrue (is_plain key.now) }
     ensures value { IfOk result (λ v. (t : Tree) → is_signature (type_of t) ≡ true → after_type (type_of t) ≡ Some [] → Builds false 0 value t → Builds false 4 v (known_tree kind.now (keyed_tree key.now t ∷ []))) }
@@ -50,7 +50,7 @@ fn known_by_one(alloc: Global, kind: &str, key: &str, value: Value) -> Result<Va
 }
 
 /// A process, by its pid and its start time.
-fn process(alloc: Global, pid: u32, start: u64) -> Result<Value, NoMemory>
+pub fn process(alloc: Global, pid: u32, start: u64) -> Result<Value, NoMemory>
     ensures value { IfOk result (λ v. Builds false 4 v (known_tree (codes "unix-process") (keyed_tree (codes "pid") (uint32 pid) ∷ keyed_tree (codes "start-time") (uint64 start) ∷ []))) }
 {
     let mut entries = ValueList::new(alloc);
@@ -62,7 +62,7 @@ fn process(alloc: Global, pid: u32, start: u64) -> Result<Value, NoMemory>
 }
 
 /// A session, by its id.
-fn session(alloc: Global, id: &Text) -> Result<Value, NoMemory>
+pub fn session(alloc: Global, id: &Text) -> Result<Value, NoMemory>
     ensures value { IfOk result (λ v. Builds false 4 v (known_tree (codes "unix-session") (keyed_tree (codes "session-id") (string id.now) ∷ []))) }
 {
     let id = string_value(alloc, id)?;
@@ -94,7 +94,7 @@ fn group(alloc: Global, gid: u32) -> Result<Value, NoMemory>
 }
 
 /// A user or a group (Identity in the reference manual).
-fn identity(alloc: Global, from: Identity) -> Result<Value, NoMemory>
+pub fn identity(alloc: Global, from: Identity) -> Result<Value, NoMemory>
     ensures value { IfOk result (λ v. Builds false 4 v (identity_tree from)) }
 {
     match from {
