@@ -1,0 +1,4 @@
+pub mod Growing
+pub mod Refusing
+pub mod Entering
+pub mod Causes

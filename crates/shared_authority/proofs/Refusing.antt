@@ -1,0 +1,43 @@
+-- What the authority refuses, as the machine says it.
+use Rattle.std.proofs.Common.{◌≡◌, ℕ, ◌≤◌, ap, length}
+use Rattle.authority_model.specs.declared.event.Event.{Event}
+use Rattle.authority_model.specs.declared.journal.Limits.{Limits}
+use Rattle.authority_model.specs.declared.load.Loaded.{Loaded}
+use Rattle.authority_laws.specs.Batches.{in_order}
+use Rattle.authority_core.specs.Journal.{Journal}
+use Rattle.authority_core.specs.Refusals.{IsStepRefused, IsLoadRefused, IsCollectRefused}
+use Rattle.authority_core.specs.declared.collecting.CollectStepRefused.{CollectStepRefused}
+use Rattle.authority_core.specs.declared.collecting.CollectStepRefused.TheVariants as collect
+use Rattle.authority_core.specs.declared.authority.StepRefused.{StepRefused}
+use Rattle.authority_core.specs.declared.authority.StepRefused.TheVariants as step
+use Rattle.authority_core.specs.declared.authority.LoadStepRefused.{LoadStepRefused}
+use Rattle.authority_core.specs.declared.authority.LoadStepRefused.TheVariants as load
+use Rattle.shared_authority.specs.declared.operation.Op.TheVariants.{Step, Load}
+use Rattle.shared_authority.specs.Machines.{Refuses}
+use Rattle.shared_authority.specs.Handing.{op_of_step, refusal_of_step, op_of_load, refusal_of_load, refusal_of_collect}
+use Rattle.shared_authority.proofs.Growing.{full_with}
+
+-- a step that is refused comes back
+pub step_back : (journal : Journal) (moment salt : ℕ) (event : Event) (refused : StepRefused) → IsStepRefused journal event refused → op_of_step moment salt refused ≡ Step moment salt event
+step_back journal moment salt event (step.JournalFull entries bytes back) r = ap (Step moment salt) r.1
+step_back journal moment salt event (step.NoMemory back) r = ap (Step moment salt) r
+
+-- and for this cause
+pub step_refuses : (journal : Journal) (limits : Limits) (event : Event) (refused : StepRefused) → IsStepRefused journal event refused → journal.limits ≡ limits → length journal.history.entries ≤ limits.entries → Refuses limits (in_order journal.history) (refusal_of_step refused)
+step_refuses journal limits event (step.JournalFull entries bytes back) r named within = full_with journal limits entries bytes r.0 named within
+step_refuses journal limits event (step.NoMemory back) r named within = tt
+
+-- a load that is refused comes back
+pub load_back : (journal : Journal) (moment : ℕ) (loaded : Loaded) (refused : LoadStepRefused) → IsLoadRefused journal loaded refused → op_of_load moment refused ≡ Load moment loaded
+load_back journal moment loaded (load.JournalFull entries bytes back) r = ap (Load moment) r.1
+load_back journal moment loaded (load.NoMemory back) r = ap (Load moment) r
+
+-- and for this cause
+pub load_refuses : (journal : Journal) (limits : Limits) (loaded : Loaded) (refused : LoadStepRefused) → IsLoadRefused journal loaded refused → journal.limits ≡ limits → length journal.history.entries ≤ limits.entries → Refuses limits (in_order journal.history) (refusal_of_load refused)
+load_refuses journal limits loaded (load.JournalFull entries bytes back) r named within = full_with journal limits entries bytes r.0 named within
+load_refuses journal limits loaded (load.NoMemory back) r named within = tt
+
+-- why a Collect is refused
+pub collect_refuses : (journal : Journal) (limits : Limits) (refused : CollectStepRefused) → IsCollectRefused journal refused → journal.limits ≡ limits → length journal.history.entries ≤ limits.entries → Refuses limits (in_order journal.history) (refusal_of_collect refused)
+collect_refuses journal limits (collect.JournalFull entries bytes) r named within = full_with journal limits entries bytes r named within
+collect_refuses journal limits collect.NoMemory r named within = tt

@@ -1,0 +1,106 @@
+use Rattle.std.proofs.Common.{◌≤◌, ◌∙◌, ap, sym, refl, subst}
+use Rattle.authority_model.specs.declared.journal.Item.{Item}
+use Rattle.authority_model.specs.declared.journal.Limits.{Limits}
+use Rattle.authority_model.specs.Items.{items_of}
+use Rattle.authority_model.specs.Given.{next, event_given, load_given}
+use Rattle.authority_laws.specs.Batches.{in_order, collect_given}
+use Rattle.authority_core.specs.Journal.{Journal}
+use Rattle.shared_authority.specs.declared.operation.Op.{Op}
+use Rattle.shared_authority.specs.declared.operation.Refusal.{Refusal}
+use Rattle.shared_authority.specs.declared.operation.Reply.TheVariants.{At, Batch as Batched}
+use Rattle.shared_authority.specs.Machines.{Gives, Refuses}
+use Rattle.shared_authority.proofs.Growing.{order_grows, order_length, order_journal, stays_within}
+use Rattle.shared_authority.proofs.Refusing.{step_back, step_refuses, load_back, load_refuses, collect_refuses}
+use Rattle.shared_authority.proofs.kept.KeptMachine.apply.Goals as goal
+
+pub invariant_of-self-clause-within : goal.invariant_of-self-clause-within
+invariant_of-self-clause-within g c =
+    let kept = c.args.self.now in
+    let e = c.step.ensures in
+    stays_within c.step.result kept.authority c.step.new.self (event_given c.args.caller c.in-Step.moment c.in-Step.salt c.in-Step.event) e.grows e.err e.within g.L.LimitsName.limits kept.named kept.within
+
+pub invariant_of-self-in-Load-clause-within : goal.invariant_of-self-in-Load-clause-within
+invariant_of-self-in-Load-clause-within g c =
+    let kept = c.args.self.now in
+    let e = c.load.ensures in
+    stays_within c.load.result kept.authority c.load.new.self (load_given c.args.caller c.in-Load.moment c.in-Load.loaded) e.grows e.err e.within g.L.LimitsName.limits kept.named kept.within
+
+pub returns-in-Ok-clause-ok : goal.returns-in-Ok-clause-ok
+returns-in-Ok-clause-ok g c =
+    let h = c.args.self.now.authority.history in
+    let e = c.in-Ok.ensures in
+    let given = event_given c.args.caller c.in-Step.moment c.in-Step.salt c.in-Step.event in
+    let i : Item = next (items_of h) given in
+    let few = subst (λ (l : Limits). l.entries ≤ 1048576) (sym c.args.self.now.named) c.args.self.now.few in (
+      i,
+      order_grows h c.step.new.self.history given e.grows,
+      refl,
+      subst (λ (op : Op). Gives c.args.caller op (in_order h) i (At c.in-Ok.place)) (sym c.in-Step.is) (refl, e.place ∙ sym (order_length h)),
+      order_journal h c.step.new.self.history given c.args.self.now.authority.limits e.grows e.legal e.within few,
+    )
+
+pub returns-in-Ok-load-clause-ok : goal.returns-in-Ok-load-clause-ok
+returns-in-Ok-load-clause-ok g c =
+    let h = c.args.self.now.authority.history in
+    let e = c.in-Ok-load.ensures in
+    let given = load_given c.args.caller c.in-Load.moment c.in-Load.loaded in
+    let i : Item = next (items_of h) given in
+    let few = subst (λ (l : Limits). l.entries ≤ 1048576) (sym c.args.self.now.named) c.args.self.now.few in (
+      i,
+      order_grows h c.load.new.self.history given e.grows,
+      refl,
+      subst (λ (op : Op). Gives c.args.caller op (in_order h) i (At c.in-Ok-load.place)) (sym c.in-Load.is) (refl, e.place ∙ sym (order_length h)),
+      order_journal h c.load.new.self.history given c.args.self.now.authority.limits e.grows e.legal e.within few,
+    )
+
+pub returns-in-Err-clause-err : goal.returns-in-Err-clause-err
+returns-in-Err-clause-err g c =
+    let kept = c.args.self.now in
+    let e = c.in-Err.ensures in
+    let back = c.hand_back_step.ensures in
+    let limits = g.L.LimitsName.limits in (
+      ap (λ (j : Journal). in_order j.history) e.err,
+      ap (λ (p : Refusal × Op). p.1) back ∙ step_back kept.authority c.in-Step.moment c.in-Step.salt c.in-Step.event c.in-Err.refused e.refused ∙ sym c.in-Step.is,
+      subst (λ (r : Refusal). Refuses limits (in_order kept.authority.history) r) (sym (ap (λ (p : Refusal × Op). p.0) back)) (step_refuses kept.authority limits c.in-Step.event c.in-Err.refused e.refused kept.named kept.within),
+    )
+
+pub returns-in-Err-load-clause-err : goal.returns-in-Err-load-clause-err
+returns-in-Err-load-clause-err g c =
+    let kept = c.args.self.now in
+    let e = c.in-Err-load.ensures in
+    let back = c.hand_back_load.ensures in
+    let limits = g.L.LimitsName.limits in (
+      ap (λ (j : Journal). in_order j.history) e.err,
+      ap (λ (p : Refusal × Op). p.1) back ∙ load_back kept.authority c.in-Load.moment c.in-Load.loaded c.in-Err-load.refused e.refused ∙ sym c.in-Load.is,
+      subst (λ (r : Refusal). Refuses limits (in_order kept.authority.history) r) (sym (ap (λ (p : Refusal × Op). p.0) back)) (load_refuses kept.authority limits c.in-Load.loaded c.in-Err-load.refused e.refused kept.named kept.within),
+    )
+
+pub invariant_of-self-in-Collect-clause-within : goal.invariant_of-self-in-Collect-clause-within
+invariant_of-self-in-Collect-clause-within g c =
+    let kept = c.args.self.now in
+    let e = c.collect.ensures in
+    stays_within c.collect.result kept.authority c.collect.new.self (collect_given c.args.caller c.in-Collect.of) e.grows e.err e.within g.L.LimitsName.limits kept.named kept.within
+
+pub returns-in-Ok-collect-clause-ok : goal.returns-in-Ok-collect-clause-ok
+returns-in-Ok-collect-clause-ok g c =
+    let h = c.args.self.now.authority.history in
+    let e = c.in-Ok-collect.ensures in
+    let given = collect_given c.args.caller c.in-Collect.of in
+    let i : Item = next (items_of h) given in
+    let few = subst (λ (l : Limits). l.entries ≤ 1048576) (sym c.args.self.now.named) c.args.self.now.few in (
+      i,
+      order_grows h c.collect.new.self.history given e.grows,
+      refl,
+      subst (λ (op : Op). Gives c.args.caller op (in_order h) i (Batched c.in-Ok-collect.batch)) (sym c.in-Collect.is) (refl, e.batch),
+      order_journal h c.collect.new.self.history given c.args.self.now.authority.limits e.grows e.legal e.within few,
+    )
+
+pub returns-in-Err-collect-clause-err : goal.returns-in-Err-collect-clause-err
+returns-in-Err-collect-clause-err g c =
+    let kept = c.args.self.now in
+    let e = c.in-Err-collect.ensures in
+    let limits = g.L.LimitsName.limits in (
+      ap (λ (j : Journal). in_order j.history) e.err,
+      sym c.in-Collect.is,
+      subst (λ (r : Refusal). Refuses limits (in_order kept.authority.history) r) (sym c.refusal_of.ensures) (collect_refuses kept.authority limits c.in-Err-collect.refused e.refused kept.named kept.within),
+    )

@@ -1,0 +1,8 @@
+use Rattle.shared_authority.proofs.Entering.{load_placed, submitted_load}
+use Rattle.shared_authority.proofs.shared.Shared.submit_load.Goals as goal
+
+pub into_place-requires : goal.into_place-requires
+into_place-requires g c = let a = c.in-Ok.ensures.ok in load_placed c.args.pass.now.number c.args.moment c.args.loaded a.learned.grown.before a.entry c.in-Ok.reply a.given
+
+pub returns-in-Ok-clause-ok : goal.returns-in-Ok-clause-ok
+returns-in-Ok-clause-ok g c = submitted_load c.args.pass.now c.call.new.pass c.args.moment c.into_place.result c.args.loaded c.in-Ok.reply c.into_place.ensures c.in-Ok.ensures.ok

@@ -1,0 +1,57 @@
+-- The authority as the machine under the lock: which operation is ready, which item and reply it gives, and when it is refused.
+use Rattle.std.specs.Prelude.{◌≡◌, ℕ, ◌^◌, ◌≤◌, ⊤, true, List, Option, Some, None, length}
+use Rattle.authority_model.specs.declared.event.Event.{Event}
+use Rattle.authority_model.specs.declared.journal.Item.{Item}
+use Rattle.authority_model.specs.declared.journal.Limits.{Limits}
+use Rattle.authority_model.specs.declared.load.Loaded.{Loaded}
+use Rattle.authority_core.specs.declared.collecting.Batch.{Batch}
+use Rattle.authority_laws.specs.Batches.{IsBatch, collect_given}
+use Rattle.authority_model.specs.Sent.{is_ready}
+use Rattle.authority_model.specs.Given.{IsStepped, event_given, load_given, next}
+use Rattle.shared_authority.specs.declared.operation.Op.{Op}
+use Rattle.shared_authority.specs.declared.operation.Op.TheVariants.{Step, Load, Collect}
+use Rattle.shared_authority.specs.declared.operation.Reply.{Reply}
+use Rattle.shared_authority.specs.declared.operation.Reply.TheVariants.{At, Batch as Batched}
+use Rattle.shared_authority.specs.declared.operation.Refusal.{Refusal}
+use Rattle.shared_authority.specs.declared.operation.Refusal.TheVariants.{JournalFull, NoMemory}
+use Rattle.shared_authority.specs.Journals.{IsFullWith, past_of}
+
+-- the event in an operation
+abbrev pub event_in : Op → Option Event
+event_in (Step moment salt event) = Some event
+event_in _ = None
+
+-- the load in an operation
+abbrev pub loaded_in : Op → Option Loaded
+loaded_in (Load moment loaded) = Some loaded
+loaded_in _ = None
+
+-- the place in a reply
+abbrev pub place_in : Reply → Option ℕ
+place_in (At place) = Some place
+place_in _ = None
+
+-- the batch in a reply
+abbrev pub batch_in : Reply → Option Batch
+batch_in (Batched batch) = Some batch
+batch_in _ = None
+
+-- A connection's operation may be applied: an event is not a load and not a Collect, and a moment is at most 2^62. A Collect may be applied where there is something to collect, or where the other connection has departed.
+abbrev pub IsReady : ℕ → Op → List Item → Type 0
+IsReady n (Step moment salt event) list = IsStepped event × (moment ≤ 2 ^ 62)
+IsReady n (Load moment loaded) list = moment ≤ 2 ^ 62
+IsReady n (Collect of) list = is_ready (past_of list) n of ≡ true
+
+-- A connection's operation gives an item and a reply: the item is the next one for what it hands in, and the reply is its place, or what a Collect takes of the items before it.
+abbrev pub Gives : ℕ → Op → List Item → Item → Reply → Type 0
+Gives n (Step moment salt event) list i (At place) = (i ≡ next (past_of list) (event_given n moment salt event)) × (place ≡ length list)
+Gives n (Load moment loaded) list i (At place) = (i ≡ next (past_of list) (load_given n moment loaded)) × (place ≡ length list)
+Gives n (Collect of) list i (Batched b) = (i ≡ next (past_of list) (collect_given n of)) × IsBatch (past_of list) n of b.from b.outputs b.loads
+Gives n (Step moment salt event) list i (Batched b) = ⊥
+Gives n (Load moment loaded) list i (Batched b) = ⊥
+Gives n (Collect of) list i (At place) = ⊥
+
+-- An operation is refused: the journal is full, or memory was refused.
+abbrev pub Refuses : Limits → List Item → Refusal → Type 0
+Refuses limits list (JournalFull entries bytes) = IsFullWith limits list entries bytes
+Refuses limits list NoMemory = ⊤

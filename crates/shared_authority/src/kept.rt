@@ -1,0 +1,186 @@
+// The authority as the machine under the lock.
+ghost use Rattle.std.specs.Prelude.{◌≡◌, ◌≤◌, [], length};
+ghost use Rattle.authority_model.specs.Entering.{AreAllowed};
+ghost use Rattle.authority_laws.specs.Batches.{in_order};
+ghost use Rattle.shared_authority.specs.Handing.{op_of_step, refusal_of_step, op_of_load, refusal_of_load, refusal_of_collect};
+
+use crate::operation::{Op, Refusal, Reply};
+use authority_core::{Authority, CollectStepRefused, LoadStepRefused, StepRefused};
+use authority_model::Item;
+use history_lock::Machine;
+use std::marker::{Brand, PhantomData};
+
+/// The greatest moment that can be handed in, in seconds: 2^62.
+const GREATEST_MOMENT: u64 = 1 << 62;
+
+/// Which limits an authority has. A program picks them once, by a call of a function that is
+/// generic in the name.
+pub trait LimitsName {
+    ghost use Rattle.authority_model.specs.declared.journal.Limits.{Limits};
+
+    /// The limits.
+    ghost limits: { Limits };
+}
+
+impl LimitsName for Brand {
+    ghost limits = { record { entries = 0; bytes = 0 } };
+}
+
+/// An authority whose limits are named `L`, and whose journal has no more entries than they allow.
+#[derive(Drop)]
+pub struct Kept<L: LimitsName> {
+    authority: Authority,
+    of: PhantomData<L>,
+    ghost named: { authority.limits ≡ L.limits },
+    ghost few: { L.limits.entries ≤ 1048576 },
+    ghost within: { length authority.history.entries ≤ L.limits.entries },
+}
+
+impl<L: LimitsName> Kept<L> {
+    /// Keeps an authority whose journal is empty.
+    pub(crate) fn new(authority: Authority) -> Kept<L>
+        requires named { authority.limits ≡ L.limits }
+        requires allowed { AreAllowed L.limits }
+        requires empty { authority.history.entries ≡ [] }
+        ensures { result.authority ≡ authority }
+    {
+        Kept {
+            authority,
+            of: PhantomData,
+        }
+    }
+
+    /// The authority.
+    pub(crate) fn into_authority(self) -> Authority
+        ensures { result ≡ self.authority }
+    {
+        let Kept { authority, of: _ } = self;
+        authority
+    }
+}
+
+impl<L: LimitsName> Machine for Kept<L> {
+    ghost use Rattle.authority_laws.specs.Batches.{in_order};
+    ghost use Rattle.shared_authority.specs.Journals.{IsJournal, Fits, caller_of};
+    ghost use Rattle.shared_authority.specs.Machines.{IsReady, Gives, Refuses};
+    ghost use Rattle.shared_authority.specs.Lasting.{empty_journal, journals_short, fits_lasts};
+
+    type Op = Op;
+
+    type Reply = Reply;
+
+    type Refusal = Refusal;
+
+    type Item = Item;
+
+    ghost entries = { λ kept. in_order kept.authority.history };
+
+    ghost caller_of = { caller_of };
+
+    ghost legal = { IsJournal };
+
+    ghost is_ready = { IsReady };
+
+    ghost gives = { Gives };
+
+    ghost refuses = { λ n op list refusal. Refuses L.limits list refusal };
+
+    ghost fits = { Fits L.limits };
+
+    fn apply(&mut self, caller: u32, op: Op) -> Result<Reply, (Refusal, Op)> {
+        match op {
+            Op::Step {
+                moment,
+                salt,
+                event,
+            } => match self.authority.step(caller, moment, salt, event) {
+                Ok(place) => Ok(Reply::At(place)),
+                Err(refused) => Err(hand_back_step(moment, salt, refused)),
+            },
+            Op::Load { moment, loaded } => match self.authority.load(caller, moment, loaded) {
+                Ok(place) => Ok(Reply::At(place)),
+                Err(refused) => Err(hand_back_load(moment, refused)),
+            },
+            Op::Collect { of } => match self.authority.collect(caller, of) {
+                Ok(batch) => Ok(Reply::Batch(batch)),
+                Err(refused) => Err((refusal_of(refused), Op::Collect { of })),
+            },
+        }
+    }
+
+    fn ready(&self, caller: u32, op: &Op) -> bool {
+        match op {
+            Op::Step {
+                moment,
+                salt: _,
+                event,
+            } => event.is_stepped() && *moment <= GREATEST_MOMENT,
+            Op::Load { moment, loaded: _ } => *moment <= GREATEST_MOMENT,
+            Op::Collect { of } => self.authority.ready(caller, *of),
+        }
+    }
+
+    ghost begins = { empty_journal };
+
+    ghost bounded = { journals_short };
+
+    ghost lasts = { fits_lasts L.limits };
+}
+
+/// Why a step was refused, and the operation that comes back.
+fn hand_back_step(moment: u64, salt: u128, refused: StepRefused) -> (Refusal, Op)
+    ensures { result ≡ (refusal_of_step refused, op_of_step moment salt refused) }
+{
+    match refused {
+        StepRefused::JournalFull {
+            entries,
+            bytes,
+            event,
+        } => (
+            Refusal::JournalFull { entries, bytes },
+            Op::Step {
+                moment,
+                salt,
+                event,
+            },
+        ),
+        StepRefused::NoMemory { event } => (
+            Refusal::NoMemory,
+            Op::Step {
+                moment,
+                salt,
+                event,
+            },
+        ),
+    }
+}
+
+/// Why a load was refused, and the operation that comes back.
+fn hand_back_load(moment: u64, refused: LoadStepRefused) -> (Refusal, Op)
+    ensures { result ≡ (refusal_of_load refused, op_of_load moment refused) }
+{
+    match refused {
+        LoadStepRefused::JournalFull {
+            entries,
+            bytes,
+            loaded,
+        } => (
+            Refusal::JournalFull { entries, bytes },
+            Op::Load { moment, loaded },
+        ),
+        LoadStepRefused::NoMemory { loaded } => (Refusal::NoMemory, Op::Load { moment, loaded }),
+    }
+}
+
+/// Why a Collect was refused.
+fn refusal_of(refused: CollectStepRefused) -> Refusal
+    ensures { result ≡ refusal_of_collect refused }
+{
+    match refused {
+        CollectStepRefused::JournalFull { entries, bytes } => Refusal::JournalFull {
+            entries,
+            bytes,
+        },
+        CollectStepRefused::NoMemory => Refusal::NoMemory,
+    }
+}

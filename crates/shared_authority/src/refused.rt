@@ -1,0 +1,91 @@
+// Why nothing was entered.
+ghost use Rattle.history_lock.specs.Known.{Known};
+ghost use Rattle.authority_model.specs.declared.event.Event.{Event};
+ghost use Rattle.authority_model.specs.declared.journal.Item.{Item};
+ghost use Rattle.authority_model.specs.declared.journal.Limits.{Limits};
+ghost use Rattle.authority_model.specs.declared.load.Loaded.{Loaded};
+ghost use Rattle.shared_authority.specs.Journals.{Fits};
+ghost use Rattle.shared_authority.specs.Passes.{SubmitIsRefused, SubmitLoadIsRefused};
+
+use authority_model::{Event, Loaded};
+use history_lock::EndCause;
+
+/// Why an event was refused. It comes back.
+#[derive(Drop)]
+pub enum SubmitRefused {
+    /// The lock has ended, by this cause.
+    Ended {
+        cause: EndCause,
+        event: Event,
+    },
+    /// The journal has reached its limit of entries or of bytes. It has this many.
+    JournalFull {
+        entries: u64,
+        bytes: u64,
+        event: Event,
+    },
+    NoMemory {
+        event: Event,
+    },
+}
+
+impl SubmitRefused {
+    /// The cause by which a caller ends the lock that refused its event. It fits what the caller's
+    /// pass knows since.
+    pub fn cause(&self) -> EndCause
+        ensures fits { (limits : Limits) (v w : Known Item) (event : Event) → SubmitIsRefused limits v event self.now w → Fits limits result w.history w.made }
+    {
+        match self {
+            SubmitRefused::Ended { cause, event: _ } => *cause,
+            SubmitRefused::JournalFull {
+                entries,
+                bytes,
+                event: _,
+            } => EndCause::JournalFull {
+                entries: *entries,
+                bytes: *bytes,
+            },
+            SubmitRefused::NoMemory { event: _ } => EndCause::NoMemory,
+        }
+    }
+}
+
+/// Why a load was refused. It comes back.
+#[derive(Drop)]
+pub enum SubmitLoadRefused {
+    /// The lock has ended, by this cause.
+    Ended {
+        cause: EndCause,
+        loaded: Loaded,
+    },
+    /// The journal has reached its limit of entries or of bytes. It has this many.
+    JournalFull {
+        entries: u64,
+        bytes: u64,
+        loaded: Loaded,
+    },
+    NoMemory {
+        loaded: Loaded,
+    },
+}
+
+impl SubmitLoadRefused {
+    /// The cause by which a caller ends the lock that refused its load. It fits what the caller's
+    /// pass knows since.
+    pub fn cause(&self) -> EndCause
+        ensures fits { (limits : Limits) (v w : Known Item) (loaded : Loaded) → SubmitLoadIsRefused limits v loaded self.now w → Fits limits result w.history w.made }
+    {
+        match self {
+            SubmitLoadRefused::Ended { cause, loaded: _ } => *cause,
+            SubmitLoadRefused::JournalFull {
+                entries,
+                bytes,
+                loaded: _,
+            } => EndCause::JournalFull {
+                entries: *entries,
+                bytes: *bytes,
+            },
+            SubmitLoadRefused::NoMemory { loaded: _ } => EndCause::NoMemory,
+        }
+    }
+}
