@@ -1,0 +1,13 @@
+pub mod Loads
+pub mod Newest
+pub mod Takings
+pub mod Staging
+pub mod Waiting
+pub mod Following
+pub mod Exits
+pub mod Written
+pub mod Supplying
+pub mod Turns
+pub mod Departing
+pub mod Serving
+pub mod Starting

@@ -1,0 +1,77 @@
+-- One more message, more bytes, or an end.
+use Rattle.std.proofs.Common.{◌∙◌, sym, refl, subst, ap, take, ◌++◌, ◌∷◌, List, ℕ, [], length}
+use Rattle.pk_outside.proofs.Written.{Gave-none}
+use Rattle.dbus_values.specs.Next.{next_of, seen}
+use Rattle.dbus_values.specs.Streams.{IsForm}
+use Rattle.pipe_run.proofs.Exits.{bad_bytes, halted, no_memory, read_fault}
+use Rattle.pipe_run.proofs.Following.{next_message}
+use Rattle.pipe_run.proofs.Serving.{answered_on, more_read, still_partial, stopped_writes}
+use Rattle.pipe_run.proofs.Written.{fails_later}
+use Rattle.pipe_run.proofs.running.serve.Goals as goal
+
+pub returns-in-Err-clause-run : goal.returns-in-Err-clause-run
+returns-in-Err-clause-run g c s told root st = no_memory s _ [] [] [] _ _ _ st refl (Gave-none (g.I.Source.left c.args.input.now))
+
+pub messages-preserved-in-Ok-take_message : goal.messages-preserved-in-Ok-take_message
+messages-preserved-in-Ok-take_message g c = record {
+  running = λ s told root st. answered_on s _ _ _ _ c.messages.buffer c.take.new.self c.in-Whole.used (seen c.in-Whole.message) (c.messages.invariant.running s told root st)
+      (subst (λ (b : List ℕ). IsForm (take c.in-Whole.used b) (seen c.in-Whole.message)) c.bytes.ensures.bytes c.in-Whole.ensures.form) c.take.ensures.taken
+      (λ messages stage. c.in-Ok-take_message.ensures.turned s messages (told ∙ sym c.messages.invariant.told) root stage);
+  counted = c.in-Ok-take_message.ensures.counted;
+  waits = c.in-Ok-take_message.ensures.waits;
+  told = c.in-Ok-take_message.ensures.same ∙ c.messages.invariant.told;
+  read = c.messages.invariant.read;
+  wrote = c.in-Ok-take_message.ensures.faults ∙ c.messages.invariant.wrote;
+}
+
+pub returns-in-Err-take_message-clause-run : goal.returns-in-Err-take_message-clause-run
+returns-in-Err-take_message-clause-run g c s told root st =
+    let r = c.messages.invariant.running s told root st in
+    rw c.end.ensures.end
+    (halted s _ r.messages (r.messages ++ seen c.in-Whole.message ∷ []) c.in-Err-take_message.stopped r.read c.messages.buffer _ _ _ _ (c.in-Err-take_message.ensures.turned s r.messages (told ∙ sym c.messages.invariant.told) root r.stage)
+    r.follow (next_message r.read r.messages c.messages.buffer c.in-Whole.used (seen c.in-Whole.message) r.follow (subst (λ (b : List ℕ). IsForm (take c.in-Whole.used b) (seen c.in-Whole.message)) c.bytes.ensures.bytes c.in-Whole.ensures.form)) r.gave)
+
+pub returns-in-Err-take_message-clause-write : goal.returns-in-Err-take_message-clause-write
+returns-in-Err-take_message-clause-write g c = rw c.end.ensures.end (stopped_writes g.O.Sink.held g.O.Sink.faults _ c.messages.output _ c.in-Err-take_message.stopped c.messages.invariant.wrote c.in-Err-take_message.ensures.faults)
+
+pub returns-in-Bad-clause-run : goal.returns-in-Bad-clause-run
+returns-in-Bad-clause-run g c s told root st =
+    bad_bytes s _ _ _ c.messages.buffer _ c.in-Bad.kind c.in-Bad.at (c.messages.invariant.running s told root st) c.messages.invariant.waits
+    (ap next_of (sym c.bytes.ensures.bytes) ∙ sym c.in-Bad.ensures.exact)
+
+pub messages-preserved : goal.messages-preserved
+messages-preserved g c =
+    let got = c.in-There.ensures.fills in
+    record {
+      running = λ s told root st. more_read s _ _ _ _ c.messages.buffer c.fill.new.self got.0 (c.messages.invariant.running s told root st) got.1 got.2.0;
+      counted = c.messages.invariant.counted;
+      waits = c.messages.invariant.waits;
+      told = c.messages.invariant.told;
+      read = c.in-There.ensures.faults ∙ c.messages.invariant.read;
+      wrote = c.messages.invariant.wrote;
+    }
+
+pub returns-in-End-clause-run : goal.returns-in-End-clause-run
+returns-in-End-clause-run g c s told root st =
+    let got = c.in-End.ensures.fills in
+    c.end_of_input.ensures.run s _ _ _ c.fill.new.self _ (more_read s _ _ _ _ c.messages.buffer c.fill.new.self got.0 (c.messages.invariant.running s told root st) got.1 got.2.0)
+    (still_partial c.bytes-in-Partial.result.now c.messages.buffer c.fill.new.self got.0 c.awaited-wanted.result c.bytes-in-Partial.ensures.bytes
+    (c.in-Partial.ensures.exact ∙ ap next_of (c.bytes.ensures.bytes ∙ sym c.bytes-in-Partial.ensures.bytes)) c.awaited-wanted.ensures.exact got.2.0 got.2.1)
+    got.2.2 (ap length c.bytes-rest.ensures.bytes)
+
+pub returns-in-ReadFault-clause-run : goal.returns-in-ReadFault-clause-run
+returns-in-ReadFault-clause-run g c s told root st =
+    let got = c.in-ReadFault.ensures.fills in
+    read_fault s _ _ _ c.fill.new.self _ (more_read s _ _ _ _ c.messages.buffer c.fill.new.self got.0 (c.messages.invariant.running s told root st) got.1 got.2.0) c.messages.invariant.waits
+    (still_partial c.bytes-in-Partial.result.now c.messages.buffer c.fill.new.self got.0 c.awaited-wanted.result c.bytes-in-Partial.ensures.bytes
+    (c.in-Partial.ensures.exact ∙ ap next_of (c.bytes.ensures.bytes ∙ sym c.bytes-in-Partial.ensures.bytes)) c.awaited-wanted.ensures.exact got.2.0 got.2.1)
+
+pub returns-in-ReadFault-clause-read : goal.returns-in-ReadFault-clause-read
+returns-in-ReadFault-clause-read g c = fails_later g.I.Source.left g.I.Source.faults _ c.messages.input _ c.messages.invariant.read c.in-ReadFault.ensures.faults
+
+pub returns-in-NoMemory-clause-run : goal.returns-in-NoMemory-clause-run
+returns-in-NoMemory-clause-run g c s told root st =
+    let r = c.messages.invariant.running s told root st in
+    let got = c.in-NoMemory.ensures.fills in
+    let more = more_read s _ _ _ _ c.messages.buffer _ got.0 r got.1 refl in
+    no_memory s _ more.messages more.read _ _ _ _ more.stage more.follow more.gave

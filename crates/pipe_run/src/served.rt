@@ -1,0 +1,197 @@
+// The authority of one connection, and what it was sent.
+ghost use Rattle.std.specs.Prelude.{◌≡◌, IfOk, OnOk};
+ghost use Rattle.authority_model.specs.Entering.{AreAllowed};
+ghost use Rattle.authority_model.specs.Given.{event_given, load_given};
+ghost use Rattle.authority_model.specs.Items.{sent};
+ghost use Rattle.authority_model.specs.Legal.{Legal};
+ghost use Rattle.authority_model.specs.Lists.{any_of};
+ghost use Rattle.pipe_run.specs.Answered.{Answers, IsSubmittable, Submits, Writes, WriteFaults, fresh, given_of};
+ghost use Rattle.pipe_run.specs.Bytes.{newest_bytes, sent_before};
+ghost use Rattle.pipe_run.specs.declared.served.Submission.TheVariants as submission;
+ghost use Rattle.pipe_run.specs.Handed.{is_load_wanted, newest_wants_load};
+
+use crate::ends::Stopped;
+use crate::writing::write_outputs;
+use authority_core::{Authority, LoadStepRefused, StepRefused};
+use authority_model::{Entry, Event, Limits, Loaded, Message, Output};
+use pk_outside::Sink;
+use pk_types::NoMemory;
+use std::alloc::Global;
+use std::marker::Model;
+
+/// The number of the connection that is served.
+pub const CONNECTION: u32 = 1;
+
+/// The number by which loads are handed in.
+pub const LOADER: u32 = 0;
+
+/// What is handed in.
+#[derive(Drop)]
+pub enum Submission {
+    /// An event.
+    Event {
+        caller: u32,
+        moment: u64,
+        salt: u128,
+        event: Event,
+    },
+    /// A load, which is the loader's.
+    Load {
+        moment: u64,
+        loaded: Loaded,
+    },
+}
+
+/// The authority of one connection, with how many messages this was sent.
+#[derive(Drop)]
+pub struct Served {
+    alloc: Global,
+    authority: Authority,
+    sent: u32,
+}
+
+impl Model for Served {
+    ghost use Rattle.authority_model.specs.Items.{items_of};
+    ghost use Rattle.pipe_run.specs.Answered.{Service};
+
+    ghost Value = { Service };
+
+    ghost view = { λ s. record { limits = s.authority.limits; past = items_of s.authority.history; sent = s.sent } };
+}
+
+/// Whether an output asks for a load.
+fn is_load_wanted(output: &Output) -> bool
+    ensures exact { result ≡ is_load_wanted output.now.message }
+{
+    match output.message {
+        Message::LoadWanted => true,
+        _ => false,
+    }
+}
+
+/// Whether one of these outputs asks for a load.
+fn wants_load(outputs: &[Output]) -> bool
+    ensures exact { result ≡ any_of (λ o. is_load_wanted o.message) outputs.now }
+{
+    outputs.iter().any(|output| is_load_wanted(output))
+}
+
+impl Served {
+    /// The authority of a connection, with an empty journal.
+    pub fn start(alloc: Global, limits: Limits) -> Result<Served, NoMemory>
+        requires limits { AreAllowed limits }
+        ensures fresh { IfOk result (λ served. served ≡ fresh limits) }
+    {
+        let authority = Authority::start(alloc, limits)?;
+        Ok(Served {
+            alloc,
+            authority,
+            sent: 0,
+        })
+    }
+
+    /// Where memory is taken from.
+    pub fn alloc(&self) -> Global {
+        self.alloc
+    }
+
+    /// Hands in an event.
+    fn submit_event(
+        &mut self,
+        caller: u32,
+        moment: u64,
+        salt: u128,
+        event: Event,
+    ) -> Result<(), Stopped>
+        requires submittable { IsSubmittable (submission.Event caller moment salt event) }
+        ensures submits { Submits self.old (event_given caller moment salt event) self.new result }
+        ensures legal { Legal self.new.past }
+    {
+        match self.authority.step(caller, moment, salt, event) {
+            Ok(_) => Ok(()),
+            Err(StepRefused::JournalFull { entries, bytes, .. }) => Err(Stopped::JournalFull {
+                entries,
+                bytes,
+            }),
+            Err(StepRefused::NoMemory { .. }) => Err(Stopped::NoMemory),
+        }
+    }
+
+    /// Hands in a load.
+    fn submit_load(&mut self, moment: u64, loaded: Loaded) -> Result<(), Stopped>
+        requires submittable { IsSubmittable (submission.Load moment loaded) }
+        ensures submits { Submits self.old (load_given LOADER moment loaded) self.new result }
+        ensures legal { Legal self.new.past }
+    {
+        match self.authority.load(LOADER, moment, loaded) {
+            Ok(_) => Ok(()),
+            Err(LoadStepRefused::JournalFull { entries, bytes, .. }) => Err(Stopped::JournalFull {
+                entries,
+                bytes,
+            }),
+            Err(LoadStepRefused::NoMemory { .. }) => Err(Stopped::NoMemory),
+        }
+    }
+
+    /// Hands something in.
+    fn submit(&mut self, submission: Submission) -> Result<(), Stopped>
+        requires submittable { IsSubmittable submission }
+        ensures submits { Submits self.old (given_of submission) self.new result }
+        ensures legal { Legal self.new.past }
+    {
+        match submission {
+            Submission::Event {
+                caller,
+                moment,
+                salt,
+                event,
+            } => self.submit_event(caller, moment, salt, event),
+            Submission::Load { moment, loaded } => self.submit_load(moment, loaded),
+        }
+    }
+
+    /// Writes what the newest entry sends to the connection.
+    fn write_newest<O: Sink>(&mut self, output: &mut O) -> Result<(), Stopped>
+        requires counted { self.old.sent ≡ sent_before CONNECTION self.old.past }
+        ensures writes { Writes (O.held output.old) (O.held output.new) (newest_bytes CONNECTION self.old.past) result }
+        ensures limits { self.new.limits ≡ self.old.limits }
+        ensures past { self.new.past ≡ self.old.past }
+        ensures sent { OnOk result (self.new.sent ≡ sent self.new.past CONNECTION) }
+        ensures faults { WriteFaults O.held O.faults output.old output.new result }
+    {
+        let history = self.authority.history();
+        let Some(entry) = history.entries.as_slice().last() else {
+            return Ok(());
+        };
+        self.sent = write_outputs(
+            self.alloc,
+            history,
+            entry.outputs.as_slice(),
+            self.sent,
+            output,
+        )?;
+        Ok(())
+    }
+
+    /// Hands something in, and writes what its entry sends to the connection.
+    pub fn answer<O: Sink>(&mut self, submission: Submission, output: &mut O) -> Result<(), Stopped>
+        requires submittable { IsSubmittable submission }
+        requires counted { self.old.sent ≡ sent self.old.past CONNECTION }
+        ensures answers { Answers self.old (given_of submission) self.new (O.held output.old) (O.held output.new) result }
+        ensures legal { Legal self.new.past }
+        ensures faults { WriteFaults O.held O.faults output.old output.new result }
+    {
+        self.submit(submission)?;
+        self.write_newest(output)
+    }
+
+    /// Whether the newest entry asks for a load.
+    pub fn wants_load(&self) -> bool
+        ensures exact { result ≡ newest_wants_load self.now.past }
+    {
+        match self.authority.history().entries.as_slice().last() {
+            Some(entry) => wants_load(entry.outputs.as_slice()),
+            None => false,
+        }
+    }
+}
