@@ -11,6 +11,8 @@ mod full;
 #[cfg(test)]
 mod generated;
 #[cfg(test)]
+mod pipes;
+#[cfg(test)]
 mod roots;
 #[cfg(test)]
 mod rows;

@@ -4,7 +4,7 @@
 //! and the streams on, and tells how it ended.
 #![tactic(auto)]
 
-use pk_outside::{ListStation, ReadSource, Tree, WriteSink};
+use pk_outside::{ReadSource, Station, Tree, WriteSink};
 use pk_types::{List, Text, TextFault, TextList};
 use polkit_daemon::{Status, polkitd};
 use std::process::ExitCode;
@@ -14,12 +14,15 @@ use std::thread::Threads;
 use std::{env, io};
 
 const HELP: &str = "usage: polkitd replay [--root DIR] [--entries K]
+       polkitd pipe UID --root DIR [--entries K]
        polkitd load N
 
 replay  runs the scenario on standard input, and writes its answers to standard output
         --root DIR   begins with the action files, rules, administrators, users, groups, sessions
                      and processes below DIR, and first writes a line for each that it skips
         --entries K  the journal holds at most K entries, 1 to 1048576
+pipe    serves one connection of the user UID: D-Bus messages on standard input, and the messages
+        to the connection on standard output, with what the files below DIR give
 load N  runs N generated checks, 1 to 100000, and writes what they come to to standard output
 
 Options, each alone:
@@ -27,8 +30,8 @@ Options, each alone:
   --version  shows the version
 
 Exit status: 0 done, 1 usage, 2 the files below DIR cannot be read or are refused, 3 read fault,
-4 write fault, 5 the journal is full, 6 a line that is not in the grammar, 70 out of memory. Any but 0
-is told by one line on standard error.
+4 write fault, 5 the journal is full, 6 a line or a message that is not in its grammar, 70 out of
+memory, 71 the system gives no random words. Any but 0 is told by one line on standard error.
 ";
 
 const VERSION: &str = "polkitd 0.105.0\n";
@@ -70,11 +73,12 @@ fn told_by(words: &[Text]) -> Option<&'static str> {
 }
 
 /// Does what the words ask for.
-fn command<R, T>(rt: &R, tree: &mut T) -> Status
+fn command<R, T, N>(rt: &R, tree: &mut T, station: &mut N) -> Status
 where
     R: Threads + Wait + Sync + Env + Input + Print + AllocGlobal,
     R::Reader: Send,
     T: Tree,
+    N: Station,
 {
     let words = match words(rt) {
         Ok(words) => words,
@@ -86,7 +90,6 @@ where
             Err(_) => Status::WriteFault,
         };
     }
-    let mut station = ListStation::new();
     let mut input = ReadSource::new(rt.reader());
     let mut output = WriteSink::new(io::writer(rt));
     polkitd(
@@ -94,21 +97,22 @@ where
         rt.alloc(),
         words.as_slice(),
         tree,
-        &mut station,
+        station,
         &mut input,
         &mut output,
     )
 }
 
-/// Runs the program over the files of a tree, and answers its exit code. A status other than
-/// `Done` is told by one line on standard error.
-pub fn run<R, T>(rt: &R, tree: &mut T) -> ExitCode
+/// Runs the program over the files of a tree and the sockets of a station, and answers its exit
+/// code. A status other than `Done` is told by one line on standard error.
+pub fn run<R, T, N>(rt: &R, tree: &mut T, station: &mut N) -> ExitCode
 where
     R: Threads + Wait + Sync + Env + Input + Print + Eprint + AllocGlobal,
     R::Reader: Send,
     T: Tree,
+    N: Station,
 {
-    let status = command(rt, tree);
+    let status = command(rt, tree, station);
     if status.code() != 0 {
         let _ = eprintln!(rt; "{status}");
     }

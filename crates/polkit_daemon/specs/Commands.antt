@@ -8,16 +8,18 @@ use Rattle.authority_model.specs.declared.journal.Limits.{Limits}
 use Rattle.authority_model.specs.declared.journal.TheConstants.{MAX_BYTES, MAX_ENTRIES}
 use Rattle.polkit_daemon.specs.declared.command.Command.{Command}
 use Rattle.polkit_daemon.specs.declared.command.Command.TheVariants as command
-use Rattle.polkit_daemon.specs.declared.command.TheConstants.{MAX_CHECKS}
+use Rattle.polkit_daemon.specs.declared.command.TheConstants.{MAX_CHECKS, MAX_UID}
 
--- A command: a replay with its root and its limit of entries, or a generated run of so many checks.
+-- A command: a replay with its root and its limit of entries, a pipe with the user of its connection, its root and its limit of entries, or a generated run of so many checks.
 pub data Named : Type 0 where
   Replay : Option (List ℕ) → ℕ → Named
+  Pipe : ℕ → List ℕ → ℕ → Named
   Load : ℕ → Named
 
 -- the command that the code tells
 abbrev pub command_seen : Command → Named
 command_seen (command.Replay root entries) = Named.Replay (option_copied root) entries
+command_seen (command.Pipe uid root entries) = Named.Pipe uid root.now entries
 command_seen (command.Load checks) = Named.Load checks
 
 -- a number above 0
@@ -47,6 +49,15 @@ abbrev pub replay_in : List (List ℕ) → Option Named
 replay_in (option ∷ root ∷ words) = if bytes_eq option (codes "--root") then rooted root (entries_in words) else option_map (Named.Replay None) (entries_in (option ∷ root ∷ words))
 replay_in words = option_map (Named.Replay None) (entries_in words)
 
+-- the pipe of this user from this root, with a limit of entries
+abbrev pub pipe_from : List ℕ → ℕ → Option ℕ → Option Named
+pipe_from root uid entries = if is_root root then option_map (Named.Pipe uid root) entries else None
+
+-- the pipe that the words after `pipe` name
+abbrev pub pipe_in : List (List ℕ) → Option Named
+pipe_in (uid ∷ option ∷ root ∷ words) = if bytes_eq option (codes "--root") then option_and_then (λ u. pipe_from root u (entries_in words)) (decimal_up_to MAX_UID uid) else None
+pipe_in other = None
+
 -- the generated run that the words after `load` name
 abbrev pub load_in : List (List ℕ) → Option Named
 load_in (number ∷ []) = option_map Named.Load (positive_up_to MAX_CHECKS number)
@@ -55,11 +66,15 @@ load_in other = None
 -- the command that the words name, where they are in the grammar
 abbrev pub command_of : List (List ℕ) → Option Named
 command_of [] = None
-command_of (word ∷ words) = if bytes_eq word (codes "replay") then replay_in words else (if bytes_eq word (codes "load") then load_in words else None)
+command_of (word ∷ words) =
+    if bytes_eq word (codes "replay") then replay_in words else
+    (if bytes_eq word (codes "pipe") then pipe_in words else
+    (if bytes_eq word (codes "load") then load_in words else None))
 
 -- the numbers of a command are in their ranges
 abbrev pub IsInRange : Command → Type 0
 IsInRange (command.Replay root entries) = (1 ≤ entries) × (entries ≤ MAX_ENTRIES)
+IsInRange (command.Pipe uid root entries) = (1 ≤ entries) × (entries ≤ MAX_ENTRIES)
 IsInRange (command.Load checks) = (1 ≤ checks) × (checks ≤ MAX_CHECKS)
 
 -- the limits of a journal of so many entries

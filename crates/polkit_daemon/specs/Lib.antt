@@ -4,6 +4,7 @@ pub mod Counted
 pub mod Faults
 pub mod Generate
 pub mod Lines
+pub mod Piped
 pub mod Playing
 pub mod Replay
 pub mod Rooted

@@ -1,13 +1,16 @@
 // The command line of the daemon.
 ghost use Rattle.std.specs.Prelude.{◌≡◌, ◌≤◌, IfSome};
 ghost use Rattle.std.specs.Option.{option_copied, option_map};
-ghost use Rattle.polkit_daemon.specs.Commands.{command_of, command_seen, entries_in, is_root, load_in, positive_up_to, replay_in, IsInRange};
+ghost use Rattle.polkit_daemon.specs.Commands.{command_of, command_seen, entries_in, is_root, load_in, pipe_in, positive_up_to, replay_in, IsInRange};
 
 use authority_model::MAX_ENTRIES;
 use pk_types::{Text, number_up_to};
 
 /// The greatest number of checks of a generated run.
 const MAX_CHECKS: u64 = 100_000;
+
+/// The greatest uid.
+const MAX_UID: u64 = 4_294_967_295;
 
 /// A command of the daemon.
 #[derive(Clone, Copy)]
@@ -17,6 +20,13 @@ pub enum Command<'a> {
     /// without the option of that many.
     Replay {
         root: Option<&'a Text>,
+        entries: u64,
+    },
+    /// `pipe UID --root DIR [--entries K]`: serves one connection of this user over the input and the
+    /// output, from what the tree below the root gives; the journal as for `replay`.
+    Pipe {
+        uid: u32,
+        root: &'a Text,
         entries: u64,
     },
     /// `load N`: runs so many generated checks, from 1 to 100,000, and writes what they come to.
@@ -82,6 +92,28 @@ fn replay_in(words: &[Text]) -> Option<Command<'_>>
     }
 }
 
+/// The pipe that the words after `pipe` name.
+fn pipe_in(words: &[Text]) -> Option<Command<'_>>
+    ensures command { option_map command_seen result ≡ pipe_in words.now }
+    ensures range { IfSome result IsInRange }
+{
+    match words {
+        [uid, option, root, rest @ ..] if option.bytes() == b"--root".as_slice() => {
+            let uid = number_up_to(uid.bytes(), MAX_UID)?;
+            if !is_root(root) {
+                return None;
+            }
+            let entries = entries_in(rest)?;
+            Some(Command::Pipe {
+                uid: uid as u32,
+                root,
+                entries,
+            })
+        }
+        _ => None,
+    }
+}
+
 /// The generated run that the words after `load` name.
 fn load_in(words: &[Text]) -> Option<Command<'_>>
     ensures command { option_map command_seen result ≡ load_in words.now }
@@ -106,6 +138,9 @@ impl Command<'_> {
         let (word, rest) = words.split_first()?;
         if word.bytes() == b"replay".as_slice() {
             return replay_in(rest);
+        }
+        if word.bytes() == b"pipe".as_slice() {
+            return pipe_in(rest);
         }
         if word.bytes() == b"load".as_slice() {
             return load_in(rest);

@@ -3,6 +3,7 @@
 
 mod command;
 mod generating;
+mod piping;
 mod replaying;
 mod rooted;
 mod status;
@@ -12,6 +13,7 @@ mod written;
 pub use command::Command;
 pub use dbus_values::FaultKind;
 pub use generating::load_run;
+pub use piping::pipe;
 pub use policy_load::{LoadLimit, LoadRefused};
 pub use rooted::replay;
 pub use scenario_text::LineKind;

@@ -19,7 +19,7 @@ use scenario_text::skipped_text;
 use std::alloc::Global;
 
 /// How a first load that is refused ends the run.
-fn status_of(refused: LoadRefused) -> Status
+pub fn refused_status(refused: LoadRefused) -> Status
     ensures status { result ≡ refused_status refused }
 {
     match refused {
@@ -105,6 +105,6 @@ pub fn replay<T: Tree, I: Source, O: Sink>(
 {
     match first_draft(alloc, root, tree) {
         Ok(first) => replay_from(alloc, limits, first, input, output),
-        Err(refused) => status_of(refused),
+        Err(refused) => refused_status(refused),
     }
 }

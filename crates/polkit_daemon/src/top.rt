@@ -3,10 +3,12 @@ ghost use Rattle.std.specs.Prelude.{◌≡◌, ◌↔◌, None, Some, Option, Li
 ghost use Rattle.polkit_daemon.specs.Commands.{Named, command_of, limits_of};
 ghost use Rattle.polkit_daemon.specs.Faults.{InputFaults, OutputFaults};
 ghost use Rattle.polkit_daemon.specs.Generate.{Generates};
+ghost use Rattle.polkit_daemon.specs.Piped.{PipesMade};
 ghost use Rattle.polkit_daemon.specs.Rooted.{ReplaysFrom};
 
 use crate::command::Command;
 use crate::generating::load_run;
+use crate::piping::pipe;
 use crate::rooted::replay;
 use crate::status::Status;
 use authority_model::{Limits, MAX_BYTES};
@@ -15,6 +17,16 @@ use pk_types::Text;
 use std::alloc::Global;
 use std::sync::Wait;
 use std::thread::Threads;
+
+/// The limits of a journal of so many entries.
+fn limits_of(entries: u64) -> Limits
+    ensures limits { result ≡ limits_of entries }
+{
+    Limits {
+        entries,
+        bytes: MAX_BYTES,
+    }
+}
 
 /// Runs the command that the words name, over these objects of the outside.
 ///
@@ -26,7 +38,7 @@ pub fn polkitd<R: Threads + Wait + Sync, T: Tree, N: Station, I: Source, O: Sink
     alloc: Global,
     words: &[Text],
     tree: &mut T,
-    _station: &mut N,
+    station: &mut N,
     input: &mut I,
     output: &mut O,
 ) -> Status
@@ -39,6 +51,12 @@ pub fn polkitd<R: Threads + Wait + Sync, T: Tree, N: Station, I: Source, O: Sink
     ensures replay { (root : Option (List ℕ)) (entries : ℕ) → command_of words.now ≡ Some (Named.Replay root entries) →
         ReplaysFrom (T.told tree.old) root (limits_of entries) (T.faults tree.old) (T.faults tree.new) (I.left input.old) (I.left input.new) (I.ended input.new) (O.held output.old) (O.held output.new) result }
 
+    // A pipe writes the messages that its connection is sent in the legal history that the bytes read
+    // make, as far as the status says. Its clock and its salt are made by the station.
+    ensures pipe { (uid : ℕ) (root : List ℕ) (entries : ℕ) → command_of words.now ≡ Some (Named.Pipe uid root entries) →
+        PipesMade (record { uid = uid; root = root; told = T.told tree.old; limits = limits_of entries }) (T.faults tree.old) (T.faults tree.new)
+        (N.told station.old) (I.left input.old) (I.left input.new) (I.ended input.new) (O.held output.old) (O.held output.new) result }
+
     // A generated run writes its one line, as far as the status says, and reads nothing.
     ensures load { (checks : ℕ) → command_of words.now ≡ Some (Named.Load checks) →
         Generates checks (O.held output.old) (O.held output.new) result }
@@ -50,11 +68,15 @@ pub fn polkitd<R: Threads + Wait + Sync, T: Tree, N: Station, I: Source, O: Sink
 {
     match Command::read(words) {
         Some(Command::Replay { root, entries }) => {
-            let limits = Limits {
-                entries,
-                bytes: MAX_BYTES,
-            };
-            replay(alloc, root, limits, tree, input, output)
+            replay(alloc, root, limits_of(entries), tree, input, output)
+        }
+        Some(Command::Pipe { uid, root, entries }) => {
+            let limits = limits_of(entries);
+            let mut clock = station.clock();
+            let mut salt = station.salt();
+            pipe(
+                alloc, uid, root, limits, tree, &mut clock, &mut salt, input, output,
+            )
         }
         Some(Command::Load { checks }) => load_run(alloc, checks, output),
         None => Status::Usage,

@@ -2,10 +2,11 @@
 //! scenario.
 #![tactic(auto)]
 
-use pk_outside::DirTree;
+use pk_outside::{DirTree, ListStation};
 use std::process::ExitCode;
 
 fn main(rt: HostRuntime) -> ExitCode {
     let mut tree = DirTree::new(&rt);
-    daemon_program::run(&rt, &mut tree)
+    let mut station = ListStation::new();
+    daemon_program::run(&rt, &mut tree, &mut station)
 }

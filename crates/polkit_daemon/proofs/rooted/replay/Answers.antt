@@ -3,7 +3,7 @@ use Rattle.polkit_daemon.proofs.FirstLoads.{began_first, refused_first}
 use Rattle.polkit_daemon.proofs.rooted.replay.Goals as goal
 
 pub returns-in-Err-clause-run : goal.returns-in-Err-clause-run
-returns-in-Err-clause-run g c = refused_first _ _ _ _ _ _ _ _ c.in-Err.refused _ c.status_of.ensures.status c.in-Err.ensures.refused
+returns-in-Err-clause-run g c = refused_first _ _ _ _ _ _ _ _ c.in-Err.refused _ c.refused_status.ensures.status c.in-Err.ensures.refused
 
 pub returns-in-Ok-clause-run : goal.returns-in-Ok-clause-run
 returns-in-Ok-clause-run g c =

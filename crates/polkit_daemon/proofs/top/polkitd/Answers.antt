@@ -3,9 +3,13 @@ use Rattle.std.proofs.Common.{Some, ap, ◌∙◌, subst}
 use Rattle.std.specs.Option.{option_copied, option_map}
 use Rattle.polkit_daemon.specs.Commands.{command_seen, limits_of}
 use Rattle.polkit_daemon.specs.Generate.{Generates}
+use Rattle.authority_model.specs.declared.journal.Limits.{Limits}
+use Rattle.pipe_run.specs.Ends.{traffic}
+use Rattle.pipe_run.specs.Supplies.{supply}
+use Rattle.polkit_daemon.specs.Piped.{PipesFrom, PipesMade, Plan}
 use Rattle.polkit_daemon.specs.Rooted.{ReplaysFrom}
 use Rattle.polkit_daemon.proofs.Faults.{generates_reads}
-use Rattle.polkit_daemon.proofs.Loading.{same_checks, same_entries, same_root}
+use Rattle.polkit_daemon.proofs.Loading.{same_checks, same_entries, same_plan, same_root}
 use Rattle.polkit_daemon.proofs.top.polkitd.Goals as goal
 
 pub returns-in-Some-Replay-clause-replay : goal.returns-in-Some-Replay-clause-replay
@@ -16,7 +20,9 @@ returns-in-Some-Replay-clause-replay g c = λ root entries is.
     (same_root _ _ _ _ _ read_is named)
     (subst (λ n. ReplaysFrom (g.T.Tree.told c.args.tree.now) (option_copied c.in-Some-Replay.root) (limits_of n) (g.T.Tree.faults c.args.tree.now) (g.T.Tree.faults c.replay.new.tree) (g.I.Source.left c.args.input.now) (g.I.Source.left c.replay.new.input) (g.I.Source.ended c.replay.new.input) (g.O.Sink.held c.args.output.now) (g.O.Sink.held c.replay.new.output) c.replay.result)
     (same_entries _ _ _ _ _ read_is named)
-    c.replay.ensures.run)
+    (subst (λ (l : Limits). ReplaysFrom (g.T.Tree.told c.args.tree.now) (option_copied c.in-Some-Replay.root) l (g.T.Tree.faults c.args.tree.now) (g.T.Tree.faults c.replay.new.tree) (g.I.Source.left c.args.input.now) (g.I.Source.left c.replay.new.input) (g.I.Source.ended c.replay.new.input) (g.O.Sink.held c.args.output.now) (g.O.Sink.held c.replay.new.output) c.replay.result)
+    c.limits_of.ensures.limits
+    c.replay.ensures.run))
 
 pub returns-in-Some-Load-clause-load : goal.returns-in-Some-Load-clause-load
 returns-in-Some-Load-clause-load g c = λ checks is.
@@ -26,3 +32,21 @@ returns-in-Some-Load-clause-load g c = λ checks is.
 
 pub returns-in-Some-Load-clause-read : goal.returns-in-Some-Load-clause-read
 returns-in-Some-Load-clause-read g c = generates_reads g.I.Source.left g.I.Source.faults _ _ _ _ c.load_run.result c.load_run.ensures.run
+
+pub returns-in-Some-Pipe-clause-pipe : goal.returns-in-Some-Pipe-clause-pipe
+returns-in-Some-Pipe-clause-pipe g c = λ uid root entries is.
+    let read_is = ap (option_map command_seen) (c.in-Some-Pipe.is ∙ ap Some c.in-Some-Pipe.field-0-is) in
+    let named = c.read.ensures.command ∙ is in
+    subst (λ (p : Plan). PipesMade p (g.T.Tree.faults c.args.tree.now) (g.T.Tree.faults c.pipe.new.tree) (g.N.Station.told c.args.station.now) (g.I.Source.left c.args.input.now) (g.I.Source.left c.pipe.new.input) (g.I.Source.ended c.pipe.new.input) (g.O.Sink.held c.args.output.now) (g.O.Sink.held c.pipe.new.output) c.pipe.result)
+    (same_plan (g.T.Tree.told c.args.tree.now) _ c.in-Some-Pipe.uid uid _ root c.in-Some-Pipe.entries entries read_is named)
+    (record {
+      clock_before = _;
+      clock = supply (g.N.Clock.Clock.left c.pipe.new.clock) (g.N.Clock.Clock.gave c.pipe.new.clock);
+      salt_before = _;
+      salt = supply (g.N.Salt.Salt.left c.pipe.new.salt) (g.N.Salt.Salt.gave c.pipe.new.salt);
+      with_clock = _;
+      with_both = _;
+      makes_clock = c.clock-clock.ensures.clock;
+      makes_salt = c.salt-salt.ensures.salt;
+      run = subst (λ (l : Limits). PipesFrom (record { uid = c.in-Some-Pipe.uid; root = c.in-Some-Pipe.root.now; told = g.T.Tree.told c.args.tree.now; limits = l }) (g.T.Tree.faults c.args.tree.now) (g.T.Tree.faults c.pipe.new.tree) (traffic (g.I.Source.left c.args.input.now) (g.I.Source.left c.pipe.new.input) (g.I.Source.ended c.pipe.new.input) (g.O.Sink.held c.args.output.now) (g.O.Sink.held c.pipe.new.output) (supply (g.N.Clock.Clock.left c.clock-clock.result) (g.N.Clock.Clock.gave c.clock-clock.result)) (supply (g.N.Clock.Clock.left c.pipe.new.clock) (g.N.Clock.Clock.gave c.pipe.new.clock)) (supply (g.N.Salt.Salt.left c.salt-salt.result) (g.N.Salt.Salt.gave c.salt-salt.result)) (supply (g.N.Salt.Salt.left c.pipe.new.salt) (g.N.Salt.Salt.gave c.pipe.new.salt))) c.pipe.result) c.limits_of-limits.ensures.limits c.pipe.ensures.run;
+    })
