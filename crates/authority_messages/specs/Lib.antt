@@ -3,3 +3,4 @@ pub mod Values
 pub mod Outgoing
 pub mod Built
 pub mod Messages
+pub mod Texts

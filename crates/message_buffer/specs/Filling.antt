@@ -6,19 +6,19 @@ use Rattle.message_buffer.specs.declared.buffer.Filled.TheVariants as filled
 use Rattle.message_buffer.specs.declared.buffer.Unread.{Unread}
 use Rattle.message_buffer.specs.declared.buffer.Unread.TheVariants as unread
 
--- what one read brought; where memory is refused the piece is lost
+-- what one read brought; where memory is refused it was not made
 abbrev pub Brings : List ℕ → List ℕ → List ℕ → Result ℕ Unread → Type 0
 Brings before piece now (Ok n) = (now ≡ before ++ piece) × (length piece ≡ n)
 Brings before piece now (Err unread.Failed) = (now ≡ before) × (piece ≡ [])
-Brings before piece now (Err unread.NoMemory) = Unit {0}
+Brings before piece now (Err unread.NoMemory) = (now ≡ before) × (piece ≡ [])
 
 -- What was read stands behind what was there before: as much as was awaited, or all up to the end of the
--- source or to its fault, which is less. Where memory is refused it is lost.
+-- source, to its fault or to the refusal of memory, which is less.
 abbrev pub Fills : Bool → ℕ → List ℕ → List ℕ → List ℕ → Filled → Type 0
 Fills ended wanted before read now filled.There = (now ≡ before ++ read) × (wanted ≤ length now)
 Fills ended wanted before read now filled.End = (now ≡ before ++ read) × (length now < wanted) × IsTrue ended
 Fills ended wanted before read now filled.ReadFault = (now ≡ before ++ read) × (length now < wanted)
-Fills ended wanted before read now filled.NoMemory = Unit {0}
+Fills ended wanted before read now filled.NoMemory = (now ≡ before ++ read) × (length now < wanted)
 
 -- A read fault was counted by the last read, and by no read before it. Every other answer leaves the
 -- count, want of memory too.

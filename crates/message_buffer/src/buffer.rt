@@ -92,14 +92,19 @@ impl MessageBuffer {
         self.start = 0;
     }
 
-    /// Reads once.
+    /// Reads once. Room is made before, so that nothing is lost where memory is refused.
     fn read_once<I: Source>(&mut self, input: &mut I) -> Result<usize, Unread>
         ensures brings { (piece : List ℕ) × Gave (I.left input.old) (I.left input.new) piece × Brings self.old piece self.new result }
         ensures end { IfOk result (λ n. n ≡ 0 → IsTrue (I.ended input.new)) }
         ensures faults { ReadFaults I.left I.faults input.old input.new result }
         ensures later { I.faults input.old ≤ I.faults input.new }
+        ensures same { I.origin input.new ≡ I.origin input.old }
         ensures fewer { IfOk result (λ n. I.budget input.new + n ≤ I.budget input.old) }
     {
+        match self.bytes.reserve(self.piece.len()) {
+            Ok(()) => {}
+            Err(_) => return Err(Unread::NoMemory),
+        }
         let count = match input.read(&mut self.piece) {
             Ok(count) => count,
             Err(Failed) => return Err(Unread::Failed),
@@ -107,17 +112,18 @@ impl MessageBuffer {
         let (read, _) = self.piece.split_at(count);
         match self.bytes.extend_from_slice(read) {
             Ok(()) => Ok(count),
-            Err(_) => Err(Unread::NoMemory),
+            Err(_) => unreachable!(),
         }
     }
 
     /// Reads until so many bytes are there that are not taken, until the source ends, or until it
     /// fails. Every answer but `ReadFault` leaves the source's count of faults; behind a read that
-    /// failed no other read is made.
+    /// failed no other read is made. Whatever the answer, all that was read is in the buffer.
     pub fn fill<I: Source>(&mut self, input: &mut I, wanted: usize) -> Filled
         ensures fills { (read : List ℕ) × Gave (I.left input.old) (I.left input.new) read × Fills (I.ended input.new) wanted self.old read self.new result }
         ensures faults { FillFaults I.left I.faults input.old input.new result }
         ensures later { I.faults input.old ≤ I.faults input.new }
+        ensures same { I.origin input.new ≡ I.origin input.old }
         ensures fewer { result ≡ Filled.There → I.budget input.new + length self.new ≤ I.budget input.old + length self.old }
     {
         self.forget_taken();

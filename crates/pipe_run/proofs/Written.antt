@@ -11,11 +11,12 @@ use Rattle.authority_model.specs.declared.message.Output.{Output}
 use Rattle.authority_model.specs.Items.{count_to}
 use Rattle.authority_messages.specs.Messages.{message_for}
 use Rattle.authority_messages.specs.Outgoing.{under}
+use Rattle.authority_messages.specs.Texts.{message_text}
 use Rattle.dbus_values.specs.Form.{message_bytes}
 use Rattle.pipe_run.specs.declared.ends.Stopped.{Stopped}
 use Rattle.pipe_run.specs.declared.ends.Stopped.TheVariants as stopped
 use Rattle.pipe_run.specs.Answered.{FaultIn, StopsAt, Writes, WriteFaults}
-use Rattle.pipe_run.specs.Bytes.{AreSendableTo, message_text, output_bytes}
+use Rattle.pipe_run.specs.Bytes.{AreSendableTo, output_bytes}
 
 -- the message of an output
 pub text_is : (loads : List Loaded) (serial : ℕ) (o : Output) → message_text loads serial o ≡ message_bytes false (under serial (message_for loads o.message))

@@ -1,17 +1,11 @@
 -- What a connection is sent, as bytes.
-use Rattle.std.specs.Prelude.{◌≡◌, ℕ, ◌+◌, ◌==◌, false, if◌then◌else◌, List, [], ◌∷◌, ◌++◌}
+use Rattle.std.specs.Prelude.{◌≡◌, ℕ, ◌+◌, ◌==◌, if◌then◌else◌, List, [], ◌∷◌, ◌++◌}
 use Rattle.authority_model.specs.declared.journal.Item.{Item}
 use Rattle.authority_model.specs.declared.load.Loaded.{Loaded}
 use Rattle.authority_model.specs.declared.message.Output.{Output}
 use Rattle.authority_model.specs.Items.{sent}
 use Rattle.authority_laws.specs.Batches.{IsSendable, loads_in}
-use Rattle.dbus_values.specs.Form.{message_bytes}
-use Rattle.authority_messages.specs.Messages.{message_for}
-use Rattle.authority_messages.specs.Outgoing.{under}
-
--- the message of an output, little-endian, with this serial
-unfoldable pub message_text : List Loaded → ℕ → Output → List ℕ
-message_text loads serial o = message_bytes false (under serial (message_for loads o.message))
+use Rattle.authority_messages.specs.Texts.{message_text}
 
 -- the messages of those of some outputs that go to a connection, to which so many were sent before; each has its number among all of them as its serial
 abbrev pub output_bytes : List Loaded → ℕ → ℕ → List Output → List ℕ

@@ -2,8 +2,9 @@
 ghost use Rattle.std.specs.Prelude.{◌≡◌, ◌+◌, ◌<◌, ◌∷◌, [], IfOk};
 ghost use Rattle.authority_model.specs.Items.{count_to};
 ghost use Rattle.authority_laws.specs.Batches.{IsSendable};
+ghost use Rattle.authority_messages.specs.Texts.{message_text};
 ghost use Rattle.pipe_run.specs.Answered.{Writes, WriteFaults};
-ghost use Rattle.pipe_run.specs.Bytes.{AreSendableTo, message_text, output_bytes};
+ghost use Rattle.pipe_run.specs.Bytes.{AreSendableTo, output_bytes};
 
 use crate::ends::Stopped;
 use crate::served::CONNECTION;
