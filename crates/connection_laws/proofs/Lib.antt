@@ -1,0 +1,5 @@
+pub mod Growing
+pub mod Doing
+pub mod Taking
+pub mod Finding
+pub mod Refused

@@ -1,0 +1,3 @@
+pub mod Doings
+pub mod Knowing
+pub mod Takings

@@ -1,0 +1,4 @@
+pub mod Follows
+pub mod Readings
+pub mod Meeting
+mod Stopping

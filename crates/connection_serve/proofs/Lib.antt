@@ -1,0 +1,5 @@
+pub mod Causes
+pub mod Meeting
+pub mod Greetings
+pub mod Serving
+pub mod Fresh

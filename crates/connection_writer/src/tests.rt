@@ -1,0 +1,102 @@
+// What is sent to a connection is written until it has gone.
+ghost use Rattle.std.specs.Prelude.{◌≡◌};
+ghost use Rattle.authority_model.specs.Entering.{AreAllowed};
+ghost use Rattle.authority_model.specs.Given.{IsStepped};
+
+use crate::{WriterEnd, write_answers};
+use authority_model::{Call, Event, Limits};
+use dbus_values::{Next, next_message};
+use history_lock::{Opened, Pass, TableName, open_table};
+use pk_outside::ByteSink;
+use shared_authority::{Kept, LimitsName, Shared};
+use std::alloc::Global;
+use std::marker::Brand;
+use std::process::Abort;
+use std::sync::Wait;
+use std::test::Fail;
+
+#[test]
+fn answers_are_written_until_the_connection_has_gone(rt: HostRuntime) -> Result<(), Fail> {
+    name_limits::<Brand, _>(&rt, rt.alloc(), Limits::GREATEST)
+}
+
+fn name_limits<L: LimitsName, R: Wait + Abort>(
+    rt: &R,
+    alloc: Global,
+    limits: Limits,
+) -> Result<(), Fail>
+    requires allowed { AreAllowed limits }
+    requires limits { limits ≡ L.limits }
+{
+    let opened = open_table::<Kept<L>>(alloc)?;
+    write_each::<L, Brand, R>(rt, alloc, limits, opened)
+}
+
+/// Two announcements of processes that no table lists are answered by errors, in this order, with
+/// the serials 1 and 2 (D-Bus Specification, "Message Format"; 3 is the type of an error).
+fn write_each<L: LimitsName, T: TableName, R: Wait + Abort>(
+    rt: &R,
+    alloc: Global,
+    limits: Limits,
+    opened: Opened<Kept<L>>,
+) -> Result<(), Fail>
+    requires allowed { AreAllowed limits }
+    requires limits { limits ≡ L.limits }
+    requires table { opened ≡ T.table }
+{
+    let (shared, mut zero) = Shared::<L, T>::start(alloc, limits, opened)?;
+    let mut pass = shared.admit(rt, &mut zero).ok().ok_or("admits")?;
+    let Ok(mut collector) = shared.admit(rt, &mut zero) else {
+        return Err(Fail::from("admits"));
+    };
+    enter(rt, &shared, &mut pass, Event::Connect { uid: 1000 })?;
+    enter(rt, &shared, &mut pass, announce(8))?;
+    enter(rt, &shared, &mut pass, announce(9))?;
+    enter(rt, &shared, &mut pass, Event::Depart)?;
+    let mut sink = ByteSink::new(alloc, 4096, 100, Vec::new(alloc))?;
+    let end = write_answers(rt, alloc, &shared, &mut collector, 1, &mut sink);
+    assert_eq!(rt; end, WriterEnd::All);
+    let Next::Whole { message, used } = next_message(sink.bytes()) else {
+        return Err(Fail::from("a message"));
+    };
+    assert_eq!(rt;
+        (message.kind, message.serial, message.reply_serial),
+        (3, 1, Some(8))
+    );
+    let (_, rest) = sink.bytes().split_at(used);
+    let Next::Whole { message, used } = next_message(rest) else {
+        return Err(Fail::from("a second message"));
+    };
+    assert_eq!(rt;
+        (message.kind, message.serial, message.reply_serial),
+        (3, 2, Some(9))
+    );
+    assert_eq!(rt; rest.len(), used);
+    Ok(())
+}
+
+/// An announcement of process 5, in the call with this serial.
+fn announce(serial: u32) -> Event
+    ensures { IsStepped result }
+{
+    Event::Call {
+        serial,
+        quiet: false,
+        call: Call::Announce { pid: 5, start: 5 },
+    }
+}
+
+/// Enters an event.
+fn enter<L: LimitsName, T: TableName, R: Wait>(
+    rt: &R,
+    shared: &Shared<L, T>,
+    pass: &mut Pass<Kept<L>, T>,
+    event: Event,
+) -> Result<(), Fail>
+    requires { IsStepped event }
+{
+    match shared.submit(rt, pass, 0, 0, event) {
+        Ok(_) => Ok(()),
+        Err(_) => Err(Fail::from("enters")),
+    }
+}

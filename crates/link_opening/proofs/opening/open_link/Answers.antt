@@ -1,0 +1,11 @@
+use Rattle.std.proofs.Common.{refl}
+use Rattle.link_opening.proofs.Rounds.{underway_first}
+use Rattle.link_opening.proofs.opening.open_link.Goals as goal
+
+pub rounds-init : goal.rounds-init
+rounds-init g c = record {
+  so = underway_first c.args.door c.args.guid c.args.buffer.now _ _ c.new-shake.result c.new-shake.ensures.all c.new-shake.ensures.over;
+  same = refl;
+  read = refl;
+  wrote = refl;
+}
