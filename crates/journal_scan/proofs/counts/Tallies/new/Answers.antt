@@ -1,0 +1,6 @@
+use Rattle.std.proofs.Common.{refl, rules}
+use Rattle.journal_scan.proofs.Tables.{table_new}
+use Rattle.journal_scan.proofs.counts.Tallies.new.Goals as goal
+
+pub returns : goal.returns
+returns c = record { empty = table_new _ _ _ _ (c.in_ok-rows.ensures.items_if_clones_equal (λ y is. search rules)) (λ n. refl) }

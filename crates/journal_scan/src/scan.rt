@@ -1,0 +1,94 @@
+// The walk over a journal.
+ghost use Rattle.std.specs.Prelude.{◌≡◌, ◌∷◌, [], List, IfOk, IfSome, IsTrue};
+ghost use Rattle.authority_model.specs.declared.journal.Item.{Item};
+ghost use Rattle.authority_model.specs.Items.{items_of};
+ghost use Rattle.journal_scan.specs.declared.lines.ConnectionLine.{ConnectionLine as TheLine};
+ghost use Rattle.journal_scan.specs.Orderly.{AreCounts, IsOrderly};
+ghost use Rattle.journal_scan.specs.Standing.{Stands};
+
+use crate::callers::Callers;
+use crate::collects::Collects;
+use crate::counts::{Counts, Tallies};
+use crate::lines::ConnectionLine;
+use crate::loading::Loading;
+use authority_model::{Entry, History};
+use pk_types::NoMemory;
+use std::alloc::Global;
+
+/// What is kept of the entries so far.
+#[derive(Drop)]
+pub(crate) struct Scan {
+    pub(crate) callers: Callers,
+    pub(crate) loading: Loading,
+    pub(crate) collects: Collects,
+    pub(crate) tallies: Tallies,
+}
+
+impl Scan {
+    ghost use Rattle.journal_scan.specs.Standing.{Stands};
+
+    /// Takes the next entry.
+    fn enter(&mut self, entry: &Entry) -> bool
+        ensures stands { IsTrue result → (lines : List TheLine) (past : List Item) (i : Item) → i.entry ≡ entry.now → Stands lines past self.old → Stands lines (i ∷ past) self.new }
+    {
+        if !self.callers.enter(entry) {
+            return false;
+        }
+        let lined = self.callers.has_line(entry.caller);
+        if !self.loading.enter(entry, lined) {
+            return false;
+        }
+        if !self.collects.enter(entry, &self.tallies) {
+            return false;
+        }
+        self.tallies.enter(entry)
+    }
+
+    /// Takes all entries of a journal, from the first to the last.
+    fn walk(&mut self, history: &History) -> bool
+        ensures stands { IsTrue result → (lines : List TheLine) → Stands lines [] self.old → Stands lines (items_of history.now) self.new }
+    {
+        let entries = history.entries.as_slice();
+        for entry in entries {
+            if !self.enter(entry) {
+                return false;
+            }
+        }
+        true
+    }
+}
+
+/// Looks whether a closed journal is orderly for its `connection` lines, and counts what the printed
+/// lines tell. Its time is linear in the entries, the outputs and the lines.
+///
+/// `None` is a journal or a list of lines in which one of the facts was not found. (Besides, it is one
+/// of a caller at or above `PLACES`, one whose callers collect of more than one connection each, and
+/// one whose counts do not fit 64 bits.)
+pub fn scan_journal(
+    alloc: Global,
+    history: &History,
+    lines: &[ConnectionLine],
+) -> Result<Option<Counts>, NoMemory>
+    ensures found { IfOk result (λ found. IfSome found (λ counts. IsOrderly lines.now (items_of history.now) × AreCounts (items_of history.now) counts)) }
+{
+    let mut callers = Callers::new(alloc)?;
+    let collects = Collects::new(alloc)?;
+    let tallies = Tallies::new(alloc)?;
+    if !callers.mark_all(lines) {
+        return Ok(None);
+    }
+    let mut scan = Scan {
+        callers,
+        loading: Loading::START,
+        collects,
+        tallies,
+    };
+    if !scan.walk(history) {
+        return Ok(None);
+    }
+    let totals = scan.loading.totals();
+    Ok(Some(Counts {
+        tallies: scan.tallies.rows,
+        totals,
+    }))
+}

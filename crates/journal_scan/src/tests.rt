@@ -1,0 +1,186 @@
+// An orderly journal, and what one more entry or another list of lines makes of it.
+use super::*;
+use authority_model::{Call, Entry, EntryList, Event, History, Message, Output, OutputList};
+use pk_types::{List, NoMemory};
+use std::alloc::Global;
+use std::test::Fail;
+
+/// What an entry does.
+#[derive(Clone, Copy)]
+enum Kind {
+    Connects(u32),
+    Reloads,
+    Passes,
+    Departs,
+    Loads,
+    Stops,
+    Collects(u32),
+}
+
+/// An entry: its caller, its moment, and what it does.
+#[derive(Clone, Copy)]
+struct Row(u32, u64, Kind);
+
+const LINE: ConnectionLine = ConnectionLine {
+    number: 1,
+    uid: 1000,
+};
+
+const JOURNAL: [Row; 9] = [
+    Row(0, 0, Kind::Loads),
+    Row(1, 5, Kind::Connects(1000)),
+    Row(1, 6, Kind::Reloads),
+    Row(0, 6, Kind::Collects(0)),
+    Row(0, 6, Kind::Loads),
+    Row(2, 6, Kind::Collects(1)),
+    Row(1, 7, Kind::Departs),
+    Row(2, 7, Kind::Collects(1)),
+    Row(3, 7, Kind::Stops),
+];
+
+fn event_of(kind: Kind) -> Event {
+    match kind {
+        Kind::Connects(uid) => Event::Connect { uid },
+        Kind::Reloads => Event::Call {
+            serial: 1,
+            quiet: false,
+            call: Call::Reload,
+        },
+        Kind::Passes => Event::Passed,
+        Kind::Departs => Event::Depart,
+        Kind::Loads => Event::Load { load: 1 },
+        Kind::Stops => Event::Stop,
+        Kind::Collects(of) => Event::Collect { of },
+    }
+}
+
+fn outputs_of(alloc: Global, row: Row) -> Result<OutputList, NoMemory> {
+    let mut outputs = List::new(alloc);
+    match row.2 {
+        Kind::Reloads => {
+            outputs.try_push(Output {
+                to: row.0,
+                message: Message::Changed,
+            })?;
+            outputs.try_push(Output {
+                to: 0,
+                message: Message::LoadWanted,
+            })?;
+        }
+        Kind::Stops => outputs.try_push(Output {
+            to: 0,
+            message: Message::StopWanted,
+        })?,
+        _ => {}
+    }
+    Ok(outputs)
+}
+
+fn push(alloc: Global, entries: &mut EntryList, row: Row) -> Result<(), NoMemory> {
+    entries.try_push(Entry {
+        caller: row.0,
+        moment: row.1,
+        salt: 0,
+        event: event_of(row.2),
+        outputs: outputs_of(alloc, row)?,
+    })
+}
+
+/// What is found in the journal with one more entry.
+fn found(
+    alloc: Global,
+    more: Option<Row>,
+    lines: &[ConnectionLine],
+) -> Result<Option<Counts>, NoMemory> {
+    let mut entries = List::new(alloc);
+    for row in &JOURNAL {
+        push(alloc, &mut entries, *row)?;
+    }
+    if let Some(row) = more {
+        push(alloc, &mut entries, row)?;
+    }
+    let history = History {
+        entries,
+        loads: List::new(alloc),
+    };
+    scan_journal(alloc, &history, lines)
+}
+
+#[test]
+fn counts_an_orderly_journal(rt: HostRuntime) -> Result<(), Fail> {
+    let counts = found(rt.alloc(), None, &[LINE])?.ok_or("not orderly")?;
+    assert_eq!(rt;
+        counts.totals,
+        Totals {
+            entries: 9,
+            loads: 2,
+            refused: 0,
+            wanted: 1
+        }
+    );
+    assert_eq!(rt;
+        counts.tallies.get(1).copied(),
+        Some(Tally {
+            messages: 1,
+            answers: 1
+        })
+    );
+    assert_eq!(rt;
+        counts.tallies.get(0).copied(),
+        Some(Tally {
+            messages: 3,
+            answers: 2
+        })
+    );
+    Ok(())
+}
+
+#[test]
+fn finds_what_is_not_in_order(rt: HostRuntime) -> Result<(), Fail> {
+    let rows = [
+        (
+            "the loader collects StopWanted",
+            Row(0, 7, Kind::Collects(0)),
+            true,
+        ),
+        (
+            "an entry after the departure",
+            Row(1, 8, Kind::Passes),
+            false,
+        ),
+        (
+            "a Connect without a line",
+            Row(4, 8, Kind::Connects(1000)),
+            false,
+        ),
+        (
+            "a load that nothing asked for",
+            Row(0, 7, Kind::Loads),
+            false,
+        ),
+        ("a load by another", Row(3, 7, Kind::Loads), false),
+        ("a second Stop", Row(3, 7, Kind::Stops), false),
+        ("a second empty batch", Row(2, 7, Kind::Collects(1)), false),
+        ("a moment of its own", Row(0, 8, Kind::Collects(0)), false),
+    ];
+    for (caption, row, orderly) in &rows {
+        let counts = found(rt.alloc(), Some(*row), &[LINE])?;
+        assert_eq!(rt; counts.is_some(), *orderly, "{caption}");
+    }
+    Ok(())
+}
+
+#[test]
+fn finds_lines_that_do_not_fit(rt: HostRuntime) -> Result<(), Fail> {
+    let other = ConnectionLine {
+        number: 1,
+        uid: 1001,
+    };
+    assert!(rt; found(rt.alloc(), None, &[other])?.is_none(), "another uid");
+    assert!(rt;
+        found(rt.alloc(), None, &[LINE, LINE])?.is_none(),
+        "a number twice"
+    );
+    assert!(rt; found(rt.alloc(), None, &[])?.is_none(), "no line");
+    Ok(())
+}

@@ -1,0 +1,3 @@
+pub mod Wanted
+pub mod Turns
+pub mod Loads

@@ -1,0 +1,129 @@
+// One load that is asked for: the tree is loaded, and what that gave is handed in.
+ghost use Rattle.std.specs.Prelude.{◌≡◌, ◌≤◌, ℕ, ◌+◌, Bool, OnOk, IfErr};
+ghost use Rattle.history_lock.specs.Known.{Known};
+ghost use Rattle.authority_model.specs.declared.journal.Item.{Item};
+ghost use Rattle.authority_model.specs.declared.event.Event.TheVariants.{LoadFailed};
+ghost use Rattle.authority_model.specs.Given.{event_given, load_given};
+ghost use Rattle.shared_authority.specs.Passes.{Entered};
+ghost use Rattle.serve_loader.specs.Loads.{GoesOn, HasEnded, IsLoad, LoadsTo};
+ghost use Rattle.serve_loader.specs.Turns.{loading_given};
+
+use authority_model::{Event, Loaded};
+use history_lock::{EndCause, Pass, TableName};
+use pk_outside::Tree;
+use pk_types::Text;
+use policy_load::{LoadRefused, load_beside};
+use shared_authority::{Kept, LimitsName, Shared};
+use std::alloc::Global;
+use std::sync::Wait;
+use std::thread::Threads;
+
+/// Hands in a load. Where that is refused, the lock is ended.
+fn submit_loaded<L: LimitsName, T: TableName, R: Wait>(
+    rt: &R,
+    shared: &Shared<L, T>,
+    pass: &mut Pass<Kept<L>, T>,
+    loaded: Loaded,
+) -> Result<(), EndCause>
+    requires zero { pass.old.number ≡ 0 }
+    ensures ok { OnOk result (Entered pass.old (load_given 0 0 loaded) pass.new) }
+    ensures err { IfErr result (λ cause. HasEnded L.limits pass.old cause pass.new) }
+    ensures number { pass.new.number ≡ pass.old.number }
+{
+    match shared.submit_load(rt, pass, 0, loaded) {
+        Ok(_) => Ok(()),
+        Err(refused) => {
+            let cause = refused.cause();
+            Err(shared.end(rt, pass, cause))
+        }
+    }
+}
+
+/// Hands in the code of a load's refusal. Where that is refused, the lock is ended.
+fn submit_code<L: LimitsName, T: TableName, R: Wait>(
+    rt: &R,
+    shared: &Shared<L, T>,
+    pass: &mut Pass<Kept<L>, T>,
+    code: u32,
+) -> Result<(), EndCause>
+    requires zero { pass.old.number ≡ 0 }
+    ensures ok { OnOk result (Entered pass.old (event_given 0 0 0 (LoadFailed code)) pass.new) }
+    ensures err { IfErr result (λ cause. HasEnded L.limits pass.old cause pass.new) }
+    ensures number { pass.new.number ≡ pass.old.number }
+{
+    match shared.submit(rt, pass, 0, 0, Event::LoadFailed { code }) {
+        Ok(_) => Ok(()),
+        Err(refused) => {
+            let cause = refused.cause();
+            Err(shared.end(rt, pass, cause))
+        }
+    }
+}
+
+/// Hands in what a load gave: the load, or the code of its refusal. Where that is refused, the lock
+/// is ended.
+fn submit_loading<L: LimitsName, T: TableName, R: Wait>(
+    rt: &R,
+    shared: &Shared<L, T>,
+    pass: &mut Pass<Kept<L>, T>,
+    gave: Result<Loaded, LoadRefused>,
+) -> Result<(), EndCause>
+    requires zero { pass.old.number ≡ 0 }
+    ensures ok { OnOk result (Entered pass.old (loading_given gave) pass.new) }
+    ensures err { IfErr result (λ cause. HasEnded L.limits pass.old cause pass.new) }
+    ensures number { pass.new.number ≡ pass.old.number }
+{
+    match gave {
+        Ok(loaded) => submit_loaded(rt, shared, pass, loaded),
+        Err(refused) => submit_code(rt, shared, pass, refused.code()),
+    }
+}
+
+/// Loads the tree once and hands in what that gave.
+fn load_again<L: LimitsName, T: TableName, F: Tree, R: Threads + Wait + Sync>(
+    rt: &R,
+    alloc: Global,
+    shared: &Shared<L, T>,
+    pass: &mut Pass<Kept<L>, T>,
+    root: &Text,
+    tree: &mut F,
+) -> Result<(), EndCause>
+    requires zero { pass.old.number ≡ 0 }
+    ensures loads { (v : Known Item) (from count : ℕ) (stop : Bool) → from ≤ F.faults tree.old
+        → LoadsTo (IsLoad (F.told tree.old) root.now from (F.faults tree.old)) v pass.old (record { owed = count + 1; stop = stop })
+        → GoesOn L.limits (IsLoad (F.told tree.old) root.now from (F.faults tree.new)) v (record { owed = count; stop = stop }) pass.new result }
+    ensures same { F.told tree.new ≡ F.told tree.old }
+    ensures later { F.faults tree.old ≤ F.faults tree.new }
+    ensures number { pass.new.number ≡ pass.old.number }
+{
+    let gave = load_beside(rt, alloc, tree, root);
+    submit_loading(rt, shared, pass, gave)
+}
+
+/// Loads the tree so many times, and hands in what each load gave.
+pub(crate) fn load_times<L: LimitsName, T: TableName, F: Tree, R: Threads + Wait + Sync>(
+    rt: &R,
+    alloc: Global,
+    shared: &Shared<L, T>,
+    pass: &mut Pass<Kept<L>, T>,
+    root: &Text,
+    tree: &mut F,
+    count: usize,
+) -> Result<(), EndCause>
+    requires zero { pass.old.number ≡ 0 }
+    ensures loads { (v : Known Item) (from : ℕ) (stop : Bool) → from ≤ F.faults tree.old
+        → LoadsTo (IsLoad (F.told tree.old) root.now from (F.faults tree.old)) v pass.old (record { owed = count; stop = stop })
+        → GoesOn L.limits (IsLoad (F.told tree.old) root.now from (F.faults tree.new)) v (record { owed = 0; stop = stop }) pass.new result }
+    ensures same { F.told tree.new ≡ F.told tree.old }
+    ensures later { F.faults tree.old ≤ F.faults tree.new }
+    ensures number { pass.new.number ≡ pass.old.number }
+{
+    let mut left = count;
+    while left > 0 {
+        match load_again(rt, alloc, shared, pass, root, tree) {
+            Ok(()) => left -= 1,
+            Err(cause) => return Err(cause),
+        }
+    }
+    Ok(())
+}

@@ -1,0 +1,90 @@
+-- The words behind `serve`: `--root DIR --door UID:PATH {--door UID:PATH} --slots N [--stop-after K] [--entries K]`, in this order.
+use Rattle.std.specs.Prelude.{ℕ, ◌≡◌, ◌≤◌, ◌*◌, ◌==◌, IfSome, ◌&&◌, Bool, not, List, [], ◌∷◌, ◌++◌, length, Option, Some, None, codes, if◌then◌else◌, nat_eq, nat_le, option_and_then, option_map}
+use Rattle.std.specs.List.{ends_with}
+use Rattle.std.specs.Str.{bytes_eq}
+use Rattle.pk_types.specs.Decimals.{decimal_up_to}
+use Rattle.authority_model.specs.declared.journal.TheConstants.{MAX_BYTES, MAX_ENTRIES}
+use Rattle.door_words.specs.declared.door.DoorPath.{DoorPath}
+use Rattle.door_words.specs.Doors.{door_of}
+use Rattle.serve_words.specs.declared.plan.ServePlan.{ServePlan}
+use Rattle.serve_words.specs.declared.amounts.Amounts.{Amounts}
+use Rattle.serve_words.specs.declared.amounts.TheConstants.{MAX_SLOTS, MAX_CONNECTIONS}
+
+-- a number above 0
+abbrev pub positive : ℕ → Option ℕ
+positive n = if nat_le 1 n then Some n else None
+
+-- a number from 1 to the greatest one
+abbrev pub positive_up_to : ℕ → List ℕ → Option ℕ
+positive_up_to greatest word = option_and_then positive (decimal_up_to greatest word)
+
+-- the limit of entries that the last words say, or the greatest one
+abbrev pub entries_in : List (List ℕ) → Option ℕ
+entries_in [] = Some MAX_ENTRIES
+entries_in (option ∷ number ∷ []) = if bytes_eq option (codes "--entries") then positive_up_to MAX_ENTRIES number else None
+entries_in other = None
+
+-- whether a path may be a root: it is not empty and does not end in `/`
+abbrev pub is_root : List ℕ → Bool
+is_root path = not (length path == 0) && not (ends_with nat_eq path (codes "/"))
+
+-- the amounts with so many slots and so many connections, if the last words are right
+abbrev pub amounts_of : ℕ → Option ℕ → Option ℕ → Option Amounts
+amounts_of slots stop entries = option_map (λ e. record { slots = slots; stop_after = stop; entries = e }) entries
+
+-- the amounts with so many slots, and the number of connections that a word says
+abbrev pub stopping : ℕ → List ℕ → List (List ℕ) → Option Amounts
+stopping slots number words = option_and_then (λ k. amounts_of slots (Some k) (entries_in words)) (positive_up_to MAX_CONNECTIONS number)
+
+-- the value of the option of this name, and the words behind it, where the words begin with that option
+abbrev pub value_of : List ℕ → List (List ℕ) → Option (List ℕ × List (List ℕ))
+value_of name (option ∷ value ∷ words) = if bytes_eq option name then Some (value, words) else None
+value_of name words = None
+
+-- the amounts with so many slots that the words say, which begin with a number of connections or do not
+abbrev pub stopping_or : ℕ → List (List ℕ) → Option (List ℕ × List (List ℕ)) → Option Amounts
+stopping_or slots words None = amounts_of slots None (entries_in words)
+stopping_or slots words (Some (number, rest)) = stopping slots number rest
+
+-- the amounts with so many slots that the words behind them say
+abbrev pub behind_slots : ℕ → List (List ℕ) → Option Amounts
+behind_slots slots words = stopping_or slots words (value_of (codes "--stop-after") words)
+
+-- the amounts that the words behind the doors say
+abbrev pub amounts_in : List (List ℕ) → Option Amounts
+amounts_in words = option_and_then (λ found. option_and_then (λ n. behind_slots n found.1) (positive_up_to MAX_SLOTS found.0)) (value_of (codes "--slots") words)
+
+-- the doors that the words name, behind some that were named before, and the words behind them
+abbrev pub doors_from : List DoorPath → List (List ℕ) → Option (List DoorPath × List (List ℕ))
+doors_from doors (option ∷ door ∷ words) =
+    if bytes_eq option (codes "--door") then option_and_then (λ d. doors_from (doors ++ d ∷ []) words) (door_of door)
+    else Some (doors, option ∷ door ∷ words)
+doors_from doors words = Some (doors, words)
+
+-- the plan of this root, these doors and these amounts: there is a door, and there are at most 64 slots over all doors
+abbrev pub planned : List ℕ → List DoorPath → Amounts → Option ServePlan
+planned root doors a =
+    if not (length doors == 0) && nat_le (a.slots * length doors) MAX_SLOTS
+    then Some (record { root = root; doors = doors; slots = a.slots; stop_after = a.stop_after; limits = record { entries = a.entries; bytes = MAX_BYTES } })
+    else None
+
+-- the plan of this root that the words behind it name
+abbrev pub plan_from : List ℕ → List (List ℕ) → Option ServePlan
+plan_from root words = option_and_then (λ named. option_and_then (planned root named.0) (amounts_in named.1)) (doors_from [] words)
+
+-- the plan that the words behind `serve` name, where they are in the grammar
+abbrev pub plan_in : List (List ℕ) → Option ServePlan
+plan_in words = option_and_then (λ found. if is_root found.0 then plan_from found.0 found.1 else None) (value_of (codes "--root") words)
+
+-- the amounts are in their ranges
+abbrev pub IsInRange : Amounts → Type 0
+IsInRange a = (1 ≤ a.slots) × (a.slots ≤ MAX_SLOTS) × IfSome a.stop_after (λ k. (1 ≤ k) × (k ≤ MAX_CONNECTIONS)) × (1 ≤ a.entries) × (a.entries ≤ MAX_ENTRIES)
+
+-- a plan is one that a service takes: it has a door, at most 64 slots over all doors, and limits in their ranges
+pub record IsAllowed (plan : ServePlan) : Type 0 where
+  pub door : 1 ≤ length plan.doors
+  pub slot : 1 ≤ plan.slots
+  pub slots : plan.slots * length plan.doors ≤ MAX_SLOTS
+  pub stop : IfSome plan.stop_after (λ k. (1 ≤ k) × (k ≤ MAX_CONNECTIONS))
+  pub entries : (1 ≤ plan.limits.entries) × (plan.limits.entries ≤ MAX_ENTRIES)
+  pub bytes : plan.limits.bytes ≡ MAX_BYTES

@@ -1,0 +1,52 @@
+-- The doors that came back, as one more is opened or shut.
+use Rattle.std.proofs.Common.{◌≡◌, ◌++◌, [], ◌∷◌, List, ℕ, Option, Some, refl, sym, ap, ◌∙◌, subst, append_assoc, append-nil}
+use mathlib.Core.List.{IsPrefix}
+use Rattle.pk_outside.specs.Doors.{DoorTold}
+use Rattle.pk_outside.specs.Stations.{DoorBack, StationTold, MakesDoor, MakesClock, MakesSalt, Shuts, first_list}
+use Rattle.authority_model.specs.declared.journal.Item.{Item}
+use Rattle.service_slots.specs.declared.line.Line.{Line}
+use Rattle.service_slots.specs.Served.{Served, SlotOf, Slots, SlotsOf}
+use Rattle.service_slots.proofs.Told.{shuts_from, door_from, clock_from, salt_from}
+use Rattle.service_slots.proofs.Growing.{served_longer}
+
+-- the same of a longer history
+pub slots_longer : (H more : List Item) (backs : List DoorBack) (lines : List Line) → IsPrefix H more → Slots H backs lines → Slots more backs lines
+slots_longer H more [] lines longer s = s
+slots_longer H more (back ∷ backs) lines longer (mine, others, is, first, rest) =
+    (mine, others, is, served_longer H more back.door.uid back.door.taken mine back.readings back.words longer first, slots_longer H more backs others longer rest)
+
+-- one more door came back
+pub slots_more : (H : List Item) (backs : List DoorBack) (lines : List Line) (back : DoorBack) (mine : List Line)
+    → Slots H backs lines → Served H back.door.uid back.door.taken mine back.readings back.words → Slots H (backs ++ back ∷ []) (lines ++ mine)
+slots_more H [] lines back mine s served = (mine, [], ap (λ (l : List Line). l ++ mine) s ∙ sym (append-nil mine), served, refl)
+slots_more H (b ∷ backs) lines back mine (of_b, others, is, first, rest) served =
+    (of_b, others ++ mine, ap (λ (l : List Line). l ++ mine) is ∙ append_assoc of_b others mine, first, slots_more H backs others back mine rest served)
+
+-- a door was shut
+pub shut_step : (H more : List Item) (before after : Option StationTold) (owner : ℕ) (door : Option DoorTold) (readings words : Option (List ℕ)) (lines mine : List Line)
+    → SlotsOf H before lines → IsPrefix H more → SlotOf more owner door readings words mine → Shuts before after door readings words → SlotsOf more after (lines ++ mine)
+shut_step H more before after owner door readings words lines mine all longer slot shuts = record {
+  where_told = (λ t e.
+      let (old, b, back, d, r, w, is) = shuts_from before after door readings words t shuts e in
+      let (of, served) = slot.where_told back.door back.readings back.words d r w in
+      let mine_served : Served more back.door.uid back.door.taken mine back.readings back.words = subst (λ (u : ℕ). Served more u back.door.taken mine back.readings back.words) (sym of) served in
+      subst (λ (backs : List DoorBack). Slots more backs (lines ++ mine)) (sym (ap (λ (s : StationTold). s.shut) is)) (slots_more more old.shut lines back mine (slots_longer H more old.shut lines longer (all.where_told old b)) mine_served));
+}
+
+-- a slot that was just opened, at a station that tells, has served nothing
+pub slot_begun : (H : List Item) (uid owner : ℕ) (path : List ℕ) (slot : ℕ) (t0 t1 t2 t3 : Option StationTold) (door : Option DoorTold) (clock_left clock_gave salt_left salt_gave : Option (List ℕ)) (lines : List Line) (now : StationTold)
+    → MakesDoor uid path slot t0 t1 door → MakesClock t1 t2 clock_left clock_gave → MakesSalt t2 t3 salt_left salt_gave → owner ≡ uid → lines ≡ [] → t3 ≡ Some now
+    → SlotOf H owner door clock_gave salt_gave lines
+slot_begun H uid owner path slot t0 t1 t2 t3 door clock_left clock_gave salt_left salt_gave lines now makes clock salt is_owner none tells =
+    let (s2, is2, no_word, now_is) = salt_from t2 t3 salt_left salt_gave now salt tells in
+    let (s1, is1, no_reading, s2_is) = clock_from t1 t2 clock_left clock_gave s2 clock is2 in
+    let (s0, is0, door_is, s1_is) = door_from uid path slot t0 t1 door s1 makes is1 in
+    record { where_told = (λ d readings words told gave drawn. begun d readings words s0 (sym told ∙ door_is) (sym gave ∙ no_reading) (sym drawn ∙ no_word)) }
+  where
+    begun : (d : DoorTold) (readings words : List ℕ) (s : StationTold) → Some d ≡ Some (record { uid = uid; path = path; slot = slot; taken = []; left = first_list s.doors }) → Some readings ≡ Some [] → Some words ≡ Some []
+        → (d.uid ≡ owner) × Served H owner d.taken lines readings words
+    begun d readings words s is r w =
+        let door_is : d ≡ record { uid = uid; path = path; slot = slot; taken = []; left = first_list s.doors } = cc (is) in
+        let r_is : readings ≡ [] = cc (r) in
+        let w_is : words ≡ [] = cc (w) in
+        (ap (λ (x : DoorTold). x.uid) door_is ∙ sym is_owner, rw (ap (λ (x : DoorTold). x.taken) door_is, none, r_is, w_is) (refl, refl))

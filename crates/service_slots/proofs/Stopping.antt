@@ -1,0 +1,82 @@
+-- Why a slot stops, as its history grows.
+use Rattle.std.proofs.Common.{◌≡◌, ◌++◌, ◌<◌, ◌≤◌, inr, [], ◌∷◌, List, ℕ, Option, None, Some, refl, sym, subst, arith, IfNone, IfSome}
+use Rattle.std.specs.Prelude.{Bool, nat_lt, true}
+use Rattle.std.proofs.lemmas.Bool.{lt-ltb}
+use Rattle.std.proofs.lemmas.List.Elements.{All-append, All-cons, All-nil}
+use mathlib.Core.List.{IsPrefix}
+use Rattle.history_lock.specs.Known.{Known}
+use Rattle.history_lock.specs.Calls.{Learned}
+use Rattle.pk_outside.specs.Causes.{Rose, RoseWhere}
+use Rattle.pk_outside.specs.Doors.{DoorTold}
+use Rattle.authority_model.specs.declared.journal.Item.{Item}
+use Rattle.authority_model.specs.declared.journal.Limits.{Limits}
+use Rattle.shared_authority.specs.Journals.{IsJournal, caller_of}
+use Rattle.shared_authority.specs.Lasting.{fits_lasts}
+use Rattle.connection_serve.specs.declared.ends.End.{End}
+use Rattle.connection_serve.specs.declared.ends.End.TheVariants as end
+use Rattle.connection_serve.specs.Headline.{Serves}
+use Rattle.service_slots.specs.declared.line.Line.{Line}
+use Rattle.service_slots.specs.declared.stop.SlotStop.{SlotStop}
+use Rattle.service_slots.specs.declared.stop.SlotStop.TheVariants as stop
+use Rattle.service_slots.proofs.Fresh.{learned_prefix}
+use Rattle.service_slots.specs.Stops.{ended_by, stop_after, NoneEnded, StopsAs, IsStopped, StopTells}
+
+-- one more connection, which the lock did not end
+none_more : (lines : List Line) (line : Line) → NoneEnded lines → ended_by line.end ≡ None → NoneEnded (lines ++ line ∷ [])
+none_more lines line none one = All-append (λ (l : Line). ended_by l.end ≡ None) lines (line ∷ []) none (All-cons (λ (l : Line). ended_by l.end ≡ None) line [] one (All-nil (λ (l : Line). ended_by l.end ≡ None)))
+
+-- What one more connection makes of its slot.
+pub record AfterLine (limits : Limits) (m : Known Item) (told : Option DoorTold) (faults : ℕ) (lines : List Line) (why : Option SlotStop) : Type 0 where
+  pub goes_on : IfNone why (NoneEnded lines)
+  pub stops : IfSome why (λ stop. (most : Option ℕ) → StopsAs limits most m told faults lines stop)
+
+-- the connection ended by this, and its line is the last
+pub after_line : (limits : Limits) (uid : ℕ) (v w m : Known Item) (left0 left held0 held gave0 gave drawn0 drawn : Option (List ℕ)) (read_faults0 read_faults write_faults0 write_faults : ℕ)
+    (told : Option DoorTold) (faults : ℕ) (lines : List Line) (number owner : ℕ) (end : End)
+    → Serves limits uid v w left0 left held0 held gave0 gave drawn0 drawn read_faults0 read_faults write_faults0 write_faults end
+    → IsPrefix w.history m.history → IsJournal m.history → w.made ≤ m.made → m.made ≤ 1048576 → NoneEnded lines
+    → AfterLine limits m told faults (lines ++ record { number = number; uid = owner; end = end } ∷ []) (stop_after end)
+after_line limits uid v w m left0 left held0 held gave0 gave drawn0 drawn r0 r f0 f told faults lines number owner (end.Ended cause) s longer legal made top none = record {
+  goes_on = tt;
+  stops = (λ most. (
+    fits_lasts limits cause w.history m.history w.made m.made s.ended legal longer made top,
+    inr (record { before = lines; last = record { number = number; uid = owner; end = end.Ended cause }; lines_are = refl; by = refl; others = none }),
+  ));
+}
+after_line limits uid v w m left0 left held0 held gave0 gave drawn0 drawn r0 r f0 f told faults lines number owner end.WriteFault s longer legal made top none = record { goes_on = none_more lines _ none refl; stops = tt }
+after_line limits uid v w m left0 left held0 held gave0 gave drawn0 drawn r0 r f0 f told faults lines number owner end.ReadFault s longer legal made top none = record { goes_on = none_more lines _ none refl; stops = tt }
+after_line limits uid v w m left0 left held0 held gave0 gave drawn0 drawn r0 r f0 f told faults lines number owner (end.BadShake fault) s longer legal made top none = record { goes_on = none_more lines _ none refl; stops = tt }
+after_line limits uid v w m left0 left held0 held gave0 gave drawn0 drawn r0 r f0 f told faults lines number owner end.ShakeCut s longer legal made top none = record { goes_on = none_more lines _ none refl; stops = tt }
+after_line limits uid v w m left0 left held0 held gave0 gave drawn0 drawn r0 r f0 f told faults lines number owner (end.BadBytes _ _) s longer legal made top none = record { goes_on = none_more lines _ none refl; stops = tt }
+after_line limits uid v w m left0 left held0 held gave0 gave drawn0 drawn r0 r f0 f told faults lines number owner (end.Truncated rest) s longer legal made top none = record { goes_on = none_more lines _ none refl; stops = tt }
+after_line limits uid v w m left0 left held0 held gave0 gave drawn0 drawn r0 r f0 f told faults lines number owner end.Done s longer legal made top none = record { goes_on = none_more lines _ none refl; stops = tt }
+after_line limits uid v w m left0 left held0 held gave0 gave drawn0 drawn r0 r f0 f told faults lines number owner end.NoMemory s longer legal made top none = record { goes_on = none_more lines _ none refl; stops = tt }
+
+-- the same once the connection's pass has met the slot's
+pub after_next : (limits : Limits) (uid : ℕ) (v w m n : Known Item) (left0 left held0 held gave0 gave drawn0 drawn : Option (List ℕ)) (read_faults0 read_faults write_faults0 write_faults : ℕ)
+    (told : Option DoorTold) (faults : ℕ) (lines all : List Line) (number owner : ℕ) (end : End) (why : Option SlotStop) {s : Known Item}
+    → Serves limits uid v w left0 left held0 held gave0 gave drawn0 drawn read_faults0 read_faults write_faults0 write_faults end
+    → Learned caller_of IsJournal s m → Learned caller_of IsJournal w n → m.history ≡ n.history → m.made ≡ n.made → m.made ≤ 1048576 → NoneEnded lines
+    → all ≡ lines ++ record { number = number; uid = owner; end = end } ∷ [] → why ≡ stop_after end
+    → AfterLine limits m told faults all why
+after_next limits uid v w m n left0 left held0 held gave0 gave drawn0 drawn r0 r f0 f told faults lines all number owner end why served first second same_history same_made top none all_is why_is =
+    let known : IsPrefix w.history m.history = subst (λ (h : List Item). IsPrefix w.history h) (sym same_history) (learned_prefix w n second) in
+    let grown = second.made in
+    let made : w.made ≤ m.made = omega (arith, grown, same_made) in
+    let now = after_line limits uid v w m left0 left held0 held gave0 gave drawn0 drawn r0 r f0 f told faults lines number owner end served known first.legal made top none in
+    rw (all_is, why_is) now
+
+-- a slot that was shut had stopped for this, as the control pass knows since
+pub stop_told : (limits : Limits) (most : Option ℕ) (v w : Known Item) (told : Option DoorTold) (faults before now : ℕ) (lines : List Line) (why : Option SlotStop)
+    → IsStopped limits most v told faults lines why → RoseWhere (nat_lt 0 faults) before now
+    → IsPrefix v.history w.history → IsJournal w.history → v.made ≤ w.made → w.made ≤ 1048576
+    → StopTells limits most w before now lines why
+stop_told limits most v w told faults before now lines None is rose longer legal made top = absurd is
+stop_told limits most v w told faults before now lines (Some stop.Closed) is rose longer legal made top = is.1
+stop_told limits most v w told faults before now lines (Some stop.DoorFailed) is rose longer legal made top = (risen faults is.0 rose, is.1)
+  where
+    risen : (n : ℕ) → 0 < n → RoseWhere (nat_lt 0 n) before now → Rose before now
+    risen n above where_risen = let yes : nat_lt 0 n ≡ true = lt-ltb 0 n above in let known = subst (λ (b : Bool). RoseWhere b before now) yes where_risen in known.1
+stop_told limits most v w told faults before now lines (Some stop.NoMemory) is rose longer legal made top = is
+stop_told limits most v w told faults before now lines (Some stop.Served) is rose longer legal made top = is
+stop_told limits most v w told faults before now lines (Some (stop.Ended cause)) is rose longer legal made top = (fits_lasts limits cause v.history w.history v.made w.made is.0 legal longer made top, is.1)

@@ -1,0 +1,32 @@
+-- Which door a slot has, and that it takes back each link that it gives.
+use Rattle.std.specs.Prelude.{◌≡◌, ◌++◌, [], ◌∷◌, ℕ, List, Option, Some, map, option_map}
+use Rattle.pk_outside.specs.Doors.{DoorTold}
+use Rattle.pk_outside.specs.Stations.{DoorBack, StationTold, first_list, other_lists}
+
+-- With what a door was made: its user, its path and its number there, and the bytes of all links that it gives.
+pub record DoorMade : Type 0 where
+  pub uid : ℕ
+  pub path : List ℕ
+  pub slot : ℕ
+  pub links : List (List ℕ)
+
+-- The door by the links that it took back and those that are left. A link that it gave and did not take back is not among them.
+abbrev pub door_made : DoorTold → DoorMade
+door_made door = record { uid = door.uid; path = door.path; slot = door.slot; links = map (λ link. link.given) door.taken ++ door.left }
+
+-- The same where the door tells.
+abbrev pub made_of : Option DoorTold → Option DoorMade
+made_of told = option_map door_made told
+
+-- A door was opened at a station: it has these arguments and the next of the links, and nothing came back to the station.
+pub record OpensDoor (uid : ℕ) (path : List ℕ) (slot : ℕ) (before after : Option StationTold) (made : Option DoorMade) : Type 0 where
+  pub where_told : (now : StationTold) → after ≡ Some now
+      → (old : StationTold) × (before ≡ Some old)
+      × (made ≡ Some (record { uid = uid; path = path; slot = slot; links = first_list old.doors }))
+      × (now.doors ≡ other_lists old.doors) × (now.shut ≡ old.shut)
+
+-- A door came back to a station, behind those before: it is this one.
+pub record ShutsDoor (before after : Option StationTold) (made : Option DoorMade) : Type 0 where
+  pub where_told : (now : StationTold) → after ≡ Some now
+      → (old : StationTold) × (before ≡ Some old) × (back : DoorBack)
+      × (now.shut ≡ old.shut ++ back ∷ []) × (made ≡ Some (door_made back.door)) × (now.doors ≡ old.doors)

@@ -1,0 +1,4 @@
+pub mod Served
+pub mod Doors
+pub mod Stops
+pub mod Ending
