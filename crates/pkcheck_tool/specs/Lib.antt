@@ -1,0 +1,4 @@
+pub mod Asking
+pub mod Checks
+pub mod Replies
+pub mod Statuses

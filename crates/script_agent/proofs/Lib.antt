@@ -1,0 +1,17 @@
+pub mod Firsts
+pub mod Appends
+pub mod Fronts
+pub mod Moves
+pub mod Serials
+pub mod Hearings
+pub mod Shaking
+pub mod Consulting
+pub mod Opening
+pub mod MeetSteps
+pub mod Dialling
+pub mod Printing
+pub mod Steering
+pub mod MetAll
+pub mod Hanging
+pub mod Ending
+pub mod Tops

@@ -1,0 +1,9 @@
+pub mod Stops
+pub mod Lines
+pub mod Waits
+pub mod Challenges
+pub mod Stories
+pub mod Steps
+pub mod Stations
+pub mod Runs
+pub mod TopCalls
