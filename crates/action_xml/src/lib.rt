@@ -3,12 +3,8 @@
 #![tactic(auto)]
 
 mod fault;
-#[cfg(test)]
-mod fault_tests;
 mod file;
 mod reading;
-#[cfg(test)]
-mod tests;
 
 pub use fault::XmlFault;
 pub use file::ActionFile;

@@ -7,13 +7,9 @@
 #![tactic(auto)]
 
 mod configured;
-#[cfg(test)]
-mod configured_tests;
 mod expanding;
 mod fault;
 mod members;
-#[cfg(test)]
-mod tests;
 
 pub use configured::admins;
 pub use expanding::expand;

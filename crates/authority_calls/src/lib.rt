@@ -16,8 +16,3 @@ mod subjects;
 
 pub use event::{ERROR, METHOD_CALL, METHOD_RETURN, NO_REPLY_EXPECTED, error_name, event_of};
 pub use methods::{AUTHORITY, AUTHORITY_PATH, Method, MethodRow, PROFILE, method_named};
-
-#[cfg(test)]
-mod argument_tests;
-#[cfg(test)]
-mod tests;

@@ -15,8 +15,6 @@ pub mod outgoing;
 pub mod pairs;
 pub mod replies;
 pub mod subjects;
-#[cfg(test)]
-mod tests;
 pub mod texts;
 pub mod values;
 mod verdict;

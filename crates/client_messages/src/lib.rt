@@ -15,6 +15,3 @@ pub mod laws;
 pub use agent::{AgentBegin, AgentReply, agent_reply, begin_of};
 pub use answer::{ClientAnswer, answer_of};
 pub use calls::{call_bytes, call_is_too_long};
-
-#[cfg(test)]
-mod tests;

@@ -42,8 +42,3 @@ pub use strings::is_path;
 pub use value::{Value, ValueList};
 pub use wire_message::WireMessage;
 pub use wire_out::{HeaderOut, WireOut};
-
-#[cfg(test)]
-mod tests;
-#[cfg(test)]
-mod writing_tests;

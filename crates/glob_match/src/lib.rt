@@ -5,8 +5,6 @@
 #![tactic(auto)]
 
 mod scalar;
-#[cfg(test)]
-mod tests;
 mod walk;
 
 pub use walk::matches;

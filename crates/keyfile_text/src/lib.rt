@@ -11,8 +11,6 @@ mod line;
 mod listing;
 mod reading;
 mod slices;
-#[cfg(test)]
-mod tests;
 
 pub use fault::{KeyFault, KeyFaultKind};
 pub use groups::{Groups, GroupsList, KeyGroup};

@@ -10,8 +10,6 @@ mod digits;
 mod line;
 mod reply;
 mod server;
-#[cfg(test)]
-mod tests;
 
 pub use client::{ClientShake, ClientStep, client_first};
 pub use reply::{ReplyLine, reply_bytes};

@@ -10,16 +10,12 @@
 
 mod clock;
 mod dir_tree;
-#[cfg(test)]
-mod dir_tree_tests;
 mod door;
 mod link;
 mod memory;
 mod real;
 mod station;
 mod stream;
-#[cfg(test)]
-mod tests;
 mod tree;
 
 pub use clock::{Clock, Salt};

@@ -9,8 +9,6 @@ mod copies;
 mod list;
 mod number;
 mod reserved;
-#[cfg(test)]
-mod tests;
 mod text;
 mod values;
 

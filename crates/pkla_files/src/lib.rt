@@ -10,8 +10,6 @@ mod entry;
 mod fault;
 mod file_order;
 mod returned;
-#[cfg(test)]
-mod tests;
 
 pub use directories::{Dir, DirList, FileOrder, FilePlace, Root};
 pub use entry::entries;

@@ -11,8 +11,6 @@ mod joining;
 mod kept;
 mod reading;
 mod skipping;
-#[cfg(test)]
-mod tests;
 
 pub use finding::{Finding, find, find_each};
 pub use joined::Joined;

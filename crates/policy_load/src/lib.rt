@@ -8,8 +8,6 @@ mod limits;
 mod loading;
 mod refused;
 mod tables;
-#[cfg(test)]
-mod tests;
 
 pub use beside::load_beside;
 pub use limits::{MAX_ACTIONS, MAX_RULES};

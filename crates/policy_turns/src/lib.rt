@@ -6,8 +6,6 @@
 
 mod listing;
 mod path;
-#[cfg(test)]
-mod tests;
 mod turn;
 mod turn_order;
 

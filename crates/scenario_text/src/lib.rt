@@ -5,8 +5,6 @@
 #![tactic(auto)]
 
 mod answer;
-#[cfg(test)]
-mod answer_tests;
 mod caller_lines;
 mod check_options;
 mod draft_lines;
@@ -17,8 +15,6 @@ mod lines;
 mod skipped;
 mod step;
 mod subjects;
-#[cfg(test)]
-mod tests;
 mod verdict;
 mod words;
 

@@ -6,20 +6,14 @@
 
 mod fault;
 mod fields;
-#[cfg(test)]
-mod group_tests;
 mod groups;
 mod kept;
-#[cfg(test)]
-mod limit_tests;
 mod limits;
 mod memberships;
 mod names;
 mod processes;
 mod sessions;
 mod table;
-#[cfg(test)]
-mod tests;
 mod users;
 
 pub use fault::TableFault;

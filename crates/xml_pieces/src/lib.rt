@@ -13,8 +13,6 @@ mod fault;
 mod keyed_texts;
 mod markup;
 mod references;
-#[cfg(test)]
-mod tests;
 mod texts;
 mod walk;
 

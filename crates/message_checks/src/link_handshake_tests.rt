@@ -1,0 +1,277 @@
+// The handshake's tables: rows of the protocol, what clients send, and hostile bytes.
+ghost use Rattle.std.specs.Prelude.{◌≡◌, ◌+◌, drop, IfOk};
+ghost use Rattle.link_handshake.specs.Shakes.{shake};
+ghost use Rattle.link_handshake.specs.Machines.{stands};
+
+use link_handshake::{
+    ClientShake, ClientStep, Handshake, ShakeFault, ShakeReply, ShakeStep, client_first,
+    reply_bytes,
+};
+use std::alloc::{AllocError, Global};
+use std::test::Fail;
+
+/// Feeds the bytes to the server's half until it is over: the replies, the last step, and where
+/// the byte stands that ended it, or else how many bytes there are. The machine gives what the
+/// definition over the whole list of bytes says.
+fn shaken(
+    alloc: Global,
+    door: u32,
+    bytes: &[u8],
+) -> Result<(Vec<ShakeReply>, ShakeStep, usize), AllocError>
+    ensures replies { IfOk result (λ got. (shake door bytes.now).replies ≡ got.0.items) }
+    ensures standing { IfOk result
+        (λ got. (shake door bytes.now).standing ≡ stands got.1 (drop (got.2 + 1) bytes.now)) }
+{
+    let mut handshake = Handshake::new(door);
+    let mut replies = Vec::new(alloc);
+    for (i, byte) in bytes.iter().enumerate() {
+        match handshake.feed(*byte) {
+            ShakeStep::More => {}
+            ShakeStep::Say(reply) => replies.push(reply)?,
+            last => return Ok((replies, last, i)),
+        }
+    }
+    Ok((replies, ShakeStep::More, bytes.len()))
+}
+
+/// Byte 0 and the lines, each with its CR LF.
+fn lines(alloc: Global, lines: &[&[u8]]) -> Result<Vec<u8>, AllocError> {
+    let mut bytes = Vec::new(alloc);
+    bytes.push(0)?;
+    for line in lines {
+        bytes.extend_from_slice(line)?;
+        bytes.extend_from_slice(b"\r\n")?;
+    }
+    Ok(bytes)
+}
+
+const OK: ShakeReply = ShakeReply::Ok;
+
+const DATA: ShakeReply = ShakeReply::Data;
+
+const REJECTED: ShakeReply = ShakeReply::Rejected;
+
+const ERROR: ShakeReply = ShakeReply::ErrorLine;
+
+const BAD: ShakeStep = ShakeStep::Fault(ShakeFault::BadLine);
+
+#[test]
+fn lines_are_answered(rt: HostRuntime) -> Result<(), Fail> {
+    let external: &[u8] = b"AUTH EXTERNAL 31303030";
+    let rows: [(u32, &[&[u8]], &[ShakeReply], ShakeStep); 20] = [
+        // What libdbus, GDBus and sd-bus send.
+        (
+            0,
+            &[b"AUTH EXTERNAL 30", b"NEGOTIATE_UNIX_FD", b"BEGIN"],
+            &[OK, ERROR],
+            ShakeStep::Begun,
+        ),
+        (
+            0,
+            &[b"AUTH", b"AUTH EXTERNAL 30", b"NEGOTIATE_UNIX_FD", b"BEGIN"],
+            &[REJECTED, OK, ERROR],
+            ShakeStep::Begun,
+        ),
+        (
+            0,
+            &[b"AUTH EXTERNAL", b"DATA", b"NEGOTIATE_UNIX_FD", b"BEGIN"],
+            &[DATA, OK, ERROR],
+            ShakeStep::Begun,
+        ),
+        (
+            1000,
+            &[b"AUTH EXTERNAL 30", b"NEGOTIATE_UNIX_FD", b"BEGIN"],
+            &[REJECTED, ERROR],
+            BAD,
+        ),
+        (
+            1000,
+            &[b"AUTH", b"AUTH EXTERNAL 30", b"NEGOTIATE_UNIX_FD", b"BEGIN"],
+            &[REJECTED, REJECTED, ERROR],
+            BAD,
+        ),
+        (
+            1000,
+            &[b"AUTH EXTERNAL", b"DATA", b"NEGOTIATE_UNIX_FD", b"BEGIN"],
+            &[DATA, OK, ERROR],
+            ShakeStep::Begun,
+        ),
+        // The worked handshake.
+        (
+            1000,
+            &[external, b"NEGOTIATE_UNIX_FD", b"BEGIN"],
+            &[OK, ERROR],
+            ShakeStep::Begun,
+        ),
+        (
+            1000,
+            &[b"AUTH EXTERNAL 31303031", b"NEGOTIATE_UNIX_FD", b"BEGIN"],
+            &[REJECTED, ERROR],
+            BAD,
+        ),
+        // Each state.
+        (1000, &[b"BEGIN"], &[], BAD),
+        (1000, &[b"AUTH EXTERNAL "], &[REJECTED], ShakeStep::More),
+        (
+            1000,
+            &[b"AUTH EXTERNAL 31303030 "],
+            &[REJECTED],
+            ShakeStep::More,
+        ),
+        (
+            1000,
+            &[b"AUTHX", b"auth", b"", b"DATA", b"CANCEL"],
+            &[ERROR, ERROR, ERROR, ERROR, ERROR],
+            ShakeStep::More,
+        ),
+        (
+            1000,
+            &[b"ERROR", b"ERROR why", b"ERRORS", b"AUTH KERBEROS_V4 00"],
+            &[REJECTED, REJECTED, ERROR, REJECTED],
+            ShakeStep::More,
+        ),
+        (
+            1000,
+            &[b"AUTH EXTERNAL", b"AUTH", external, b"DATA "],
+            &[DATA, ERROR, ERROR, OK],
+            ShakeStep::More,
+        ),
+        (
+            1000,
+            &[b"AUTH EXTERNAL", b"DATA 31303030", external],
+            &[DATA, OK, ERROR],
+            ShakeStep::More,
+        ),
+        (
+            1000,
+            &[b"AUTH EXTERNAL", b"DATA 30", b"DATA"],
+            &[DATA, REJECTED, ERROR],
+            ShakeStep::More,
+        ),
+        (1000, &[b"AUTH EXTERNAL", b"BEGIN"], &[DATA], BAD),
+        (
+            1000,
+            &[b"AUTH EXTERNAL", b"CANCEL", b"AUTH EXTERNAL", b"ERROR x"],
+            &[DATA, REJECTED, DATA, REJECTED],
+            ShakeStep::More,
+        ),
+        (1000, &[external, b"CANCEL", b"BEGIN"], &[OK, REJECTED], BAD),
+        (
+            1000,
+            &[external, b"ERROR", external, b"BEGIN "],
+            &[OK, REJECTED, OK, ERROR],
+            ShakeStep::More,
+        ),
+    ];
+    for (door, sent, replies, last) in rows {
+        let bytes = lines(rt.alloc(), sent)?;
+        let got = shaken(rt.alloc(), door, bytes.as_slice())?;
+        assert!(rt; got.0.as_slice() == replies, "{door} {sent:?}");
+        assert!(rt; got.1 == last, "{door} {sent:?}");
+    }
+    Ok(())
+}
+
+#[test]
+fn hostile_bytes_end_it(rt: HostRuntime) -> Result<(), Fail> {
+    let auth: &[u8] = b"AUTH";
+    let sixteen = lines(rt.alloc(), &[auth; 16])?;
+    let mut seventeenth = lines(rt.alloc(), &[auth; 16])?;
+    seventeenth.push(b'A')?;
+    let mut last_begins = lines(rt.alloc(), &[auth; 14])?;
+    last_begins.extend_from_slice(b"AUTH EXTERNAL 30\r\nBEGIN\r\nl")?;
+    let mut long = [b'A'; 514];
+    long[0] = 0;
+    let mut longest = [b'A'; 513];
+    longest[0] = 0;
+    longest[511] = b'\r';
+    longest[512] = b'\n';
+    let rows: [(&[u8], usize, ShakeStep, usize); 9] = [
+        (b"A", 0, BAD, 0),
+        (&long, 0, ShakeStep::Fault(ShakeFault::TooLong), 513),
+        (&long[..513], 0, ShakeStep::More, 513),
+        (&longest, 1, ShakeStep::More, 513),
+        (sixteen.as_slice(), 16, ShakeStep::More, 97),
+        (
+            seventeenth.as_slice(),
+            16,
+            ShakeStep::Fault(ShakeFault::TooMany),
+            97,
+        ),
+        (last_begins.as_slice(), 15, ShakeStep::Begun, 109),
+        (b"\x00AUTH\n", 0, BAD, 5),
+        (b"", 0, ShakeStep::More, 0),
+    ];
+    for (bytes, replies, last, at) in rows {
+        let got = shaken(rt.alloc(), 0, bytes)?;
+        assert!(rt; got.0.len() == replies, "{bytes:?}");
+        assert!(rt; got.1 == last && got.2 == at, "{bytes:?}");
+    }
+    Ok(())
+}
+
+#[test]
+fn an_end_is_answered_again(rt: HostRuntime) {
+    let mut shake = Handshake::new(0);
+    assert!(rt; shake.feed(b'A') == BAD);
+    assert!(rt; shake.feed(0) == BAD);
+    let mut shake = Handshake::new(0);
+    for byte in b"\x00AUTH EXTERNAL 30\r\nBEGIN\r" {
+        let step = shake.feed(*byte);
+        assert!(rt; step == ShakeStep::More || step == ShakeStep::Say(OK));
+    }
+    assert!(rt; shake.feed(b'\n') == ShakeStep::Begun);
+    assert!(rt; shake.feed(b'l') == ShakeStep::Begun);
+}
+
+#[test]
+fn replies_are_lines(rt: HostRuntime) {
+    let ok = reply_bytes(OK, 0);
+    assert!(rt; ok.bytes() == b"OK 00000000000000000000000000000000\r\n".as_slice());
+    let ok = reply_bytes(OK, 0x0123_4567_89ab_cdef_0011_2233_4455_66ff);
+    assert!(rt; ok.bytes() == b"OK 0123456789abcdef00112233445566ff\r\n".as_slice());
+    assert!(rt; reply_bytes(DATA, 1).bytes() == b"DATA\r\n".as_slice());
+    assert!(rt; reply_bytes(REJECTED, 1).bytes() == b"REJECTED EXTERNAL\r\n".as_slice());
+    assert!(rt; reply_bytes(ERROR, 1).bytes() == b"ERROR\r\n".as_slice());
+}
+
+#[test]
+fn the_client_awaits_its_line(rt: HostRuntime) -> Result<(), Fail> {
+    let first = client_first(rt.alloc(), 1000)?;
+    assert!(rt; first.as_slice() == b"\x00AUTH EXTERNAL 31303030\r\n".as_slice());
+    let most = client_first(rt.alloc(), u32::MAX)?;
+    assert!(rt; most.as_slice() == b"\x00AUTH EXTERNAL 34323934393637323935\r\n".as_slice());
+    let bad = ClientStep::Fault(ShakeFault::BadLine);
+    let rows: [(&[u8], ClientStep, usize); 9] = [
+        (
+            b"OK 00000000000000000000000000000000\r\nl",
+            ClientStep::SendBegin,
+            36,
+        ),
+        (
+            b"OK 0123456789abcdefABCDEF0123456789\r\n",
+            ClientStep::SendBegin,
+            36,
+        ),
+        (b"OK 0000000000000000000000000000000\r\n", bad, 35),
+        (b"OK 0000000000000000000000000000000g\r\n", bad, 36),
+        (b"OK 00000000000000000000000000000000\n", bad, 35),
+        (b"REJECTED EXTERNAL\r\n", bad, 18),
+        (b"OK 0000", ClientStep::More, 7),
+        (&[b'O'; 513], ClientStep::Fault(ShakeFault::TooLong), 512),
+        (&[b'O'; 512], ClientStep::More, 512),
+    ];
+    for (bytes, want, want_at) in rows {
+        let mut client = ClientShake::new();
+        let mut got = (ClientStep::More, bytes.len());
+        for (i, byte) in bytes.iter().enumerate() {
+            let step = client.feed(*byte);
+            if got.0 == ClientStep::More && step != ClientStep::More {
+                got = (step, i);
+            }
+            assert!(rt; got.0 == step, "an end is answered again");
+        }
+        assert!(rt; got == (want, want_at), "{bytes:?}");
+    }
+    Ok(())
+}
