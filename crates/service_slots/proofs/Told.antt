@@ -77,11 +77,11 @@ shuts_from (Some b) None door readings words now s e = absurd s
 shuts_from (Some b) (Some x) door readings words now (back, d, r, w, is) e = let same : x ≡ now = cc (e) in (b, refl, back, d, r, w, sym same ∙ is)
 
 -- the door that came back is the one that was shut
-pub shut_door : (before after : Option StationTold) (door : Option DoorTold) (readings words : Option (List ℕ)) → Shuts before after door readings words → ShutsDoor before after (made_of door)
+pub shut_door : (before after : Option StationTold) (door : Option DoorTold) (readings words : Option (List ℕ)) → Shuts before after door readings words → ShutsDoor before after door
 shut_door before after door readings words shuts = record {
   where_told = (λ now e.
       let (old, b, back, d, r, w, is) = shuts_from before after door readings words now shuts e in
-      (old, b, back, ap (λ (t : StationTold). t.shut) is, ap made_of d, ap (λ (t : StationTold). t.doors) is));
+      (old, b, back, ap (λ (t : StationTold). t.shut) is, d, ap (λ (t : StationTold). t.doors) is));
 }
 
 -- what a station was before it made a door

@@ -25,8 +25,8 @@ pub record OpensDoor (uid : ℕ) (path : List ℕ) (slot : ℕ) (before after : 
       × (made ≡ Some (record { uid = uid; path = path; slot = slot; links = first_list old.doors }))
       × (now.doors ≡ other_lists old.doors) × (now.shut ≡ old.shut)
 
--- A door came back to a station, behind those before: it is this one.
-pub record ShutsDoor (before after : Option StationTold) (made : Option DoorMade) : Type 0 where
+-- A door came back to a station, behind those before: it is the one that this tells.
+pub record ShutsDoor (before after : Option StationTold) (door : Option DoorTold) : Type 0 where
   pub where_told : (now : StationTold) → after ≡ Some now
       → (old : StationTold) × (before ≡ Some old) × (back : DoorBack)
-      × (now.shut ≡ old.shut ++ back ∷ []) × (made ≡ Some (door_made back.door)) × (now.doors ≡ old.doors)
+      × (now.shut ≡ old.shut ++ back ∷ []) × (door ≡ Some back.door) × (now.doors ≡ old.doors)

@@ -63,7 +63,8 @@ pub fn shut_slot<L: LimitsName, T: TableName, N: Station>(
 ) -> ShutSlot
     ensures slots { (lines : List Line) → SlotOf slot.pass.history (N.Door.owner slot.door) (N.Door.told slot.door) (N.Clock.gave slot.clock) (N.Salt.gave slot.salt) slot.lines.items
         → SlotsOf control.old.history (N.told station.old) lines → SlotsOf control.new.history (N.told station.new) (lines ++ result.lines.items) }
-    ensures door { ShutsDoor (N.told station.old) (N.told station.new) (made_of (N.Door.told slot.door)) }
+    ensures door { ShutsDoor (N.told station.old) (N.told station.new) (N.Door.told slot.door) }
+    ensures same { (result.lines ≡ slot.lines) × (result.stop ≡ slot.stop) }
     ensures stop { (most : Option ℕ) → IsStopped L.limits most slot.pass (N.Door.told slot.door) (N.Door.faults slot.door) slot.lines.items slot.stop → StopTells L.limits most control.new (N.faults station.old) (N.faults station.new) result.lines.items result.stop }
     ensures learned { Learned caller_of IsJournal control.old control.new }
     ensures top { control.new.made ≤ 1048576 }
