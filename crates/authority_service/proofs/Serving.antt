@@ -1,0 +1,220 @@
+-- What a service does, by how it ended.
+use Rattle.std.proofs.Common.{◌≡◌, ◌≤◌, ◌++◌, ◌⊎◌, [], ◌∷◌, List, ℕ, Bool, true, false, Option, None, Some, Err, IfSome, inl, inr, refl, sym, ap, ◌∙◌, subst, append_assoc, append-nil, arith}
+use Rattle.std.specs.Prelude.{All, length, ◌||◌}
+use Rattle.std.specs.List.{flat_map, list_any}
+use Rattle.std.proofs.lemmas.List.Elements.{All-append, All-head, All-tail, All-nil}
+use Rattle.history_lock.specs.Known.{Known}
+use Rattle.history_lock.specs.declared.machine.EndCause.{EndCause}
+use Rattle.history_lock.specs.declared.machine.EndCause.TheVariants as cause
+use Rattle.authority_laws.proofs.Tracing.{access}
+use Rattle.authority_model.specs.declared.journal.History.{History}
+use Rattle.authority_model.specs.declared.journal.Limits.{Limits}
+use Rattle.authority_model.specs.declared.journal.Item.{Item}
+use Rattle.authority_model.specs.declared.load.Loaded.{Loaded}
+use Rattle.authority_model.specs.Items.{items_of}
+use Rattle.pk_outside.specs.Causes.{Rose}
+use Rattle.pk_outside.specs.Streams.{Got, GotFront}
+use Rattle.scenario_text.specs.Skipped.{skipped_lines}
+use Rattle.serve_words.specs.declared.plan.ServePlan.{ServePlan}
+use Rattle.service_slots.specs.declared.line.Line.{Line}
+use Rattle.service_slots.specs.declared.opening.ShutSlot.{ShutSlot}
+use Rattle.service_slots.specs.declared.stop.SlotStop.{SlotStop}
+use Rattle.service_slots.specs.declared.stop.SlotStop.TheVariants as stop
+use Rattle.service_slots.specs.Stops.{NoneEnded, StopTells, ended_by}
+use Rattle.authority_service.specs.declared.ends.ServiceEnd.{ServiceEnd}
+use Rattle.policy_load.specs.declared.refused.LoadRefused.{LoadRefused}
+use Rattle.policy_load.specs.declared.refused.LoadRefused.TheVariants as load_refused
+use Rattle.policy_load.specs.Causes.{FaultCause, LoadsAs}
+use Rattle.policy_load.specs.Loads.{load_of}
+use Rattle.authority_service.specs.declared.top.Unbegun.{Unbegun}
+use Rattle.authority_service.specs.Begun.{HasRun, IsShort, Objects}
+use Rattle.authority_service.specs.Ends.{end_of_refused}
+use Rattle.authority_service.specs.Lines.{service_text}
+use Rattle.authority_service.specs.Printing.{IsPrinted, WasPrinted, WasUntold, WrittenAs}
+use Rattle.authority_service.specs.Running.{ended_slot}
+use Rattle.authority_service.specs.Service.{HasServed, IsFirst, IsLeft, IsUnbegun, IsUntouched, Left, Outside, Serves, WasWhole, end_of, has_failed_door, has_no_memory, printed}
+
+-- some bytes were got, and then others
+pub got_both : (h0 h1 h2 : Option (List ℕ)) (a b : List ℕ) → Got h0 h1 a → Got h1 h2 b → Got h0 h2 (a ++ b)
+got_both None None None a b x y = tt
+got_both None None (Some h2) a b x y = absurd y
+got_both None (Some h1) h2 a b x y = absurd x
+got_both (Some h0) None h2 a b x y = absurd x
+got_both (Some h0) (Some h1) None a b x y = absurd y
+got_both (Some h0) (Some h1) (Some h2) a b x y = y ∙ ap (λ (l : List ℕ). l ++ b) x ∙ append_assoc h0 a b
+
+-- the whole is a front
+pub got_front : (h0 h1 : Option (List ℕ)) (a : List ℕ) → Got h0 h1 a → GotFront h0 h1 a
+got_front h0 h1 a x = ([], (a, sym (append-nil a), x))
+
+-- some bytes were got, and then a front of others
+pub front_both : (h0 h1 h2 : Option (List ℕ)) (a b : List ℕ) → Got h0 h1 a → GotFront h1 h2 b → GotFront h0 h2 (a ++ b)
+front_both h0 h1 h2 a b x (rest, (written, is, y)) = (rest, (a ++ written, ap (λ (l : List ℕ). a ++ l) is ∙ sym (append_assoc a written rest), got_both h0 h1 h2 a written x y))
+
+-- nothing was got behind the first bytes
+pub front_only : (h0 h1 h2 : Option (List ℕ)) (a b : List ℕ) → Got h0 h1 a → h2 ≡ h1 → GotFront h0 h2 (a ++ b)
+front_only h0 h1 h2 a b x same = (b, (a, refl, subst (λ (h : Option (List ℕ)). Got h0 h a) (sym same) x))
+
+-- a slot that the lock did not stop has no line of a connection that the lock ended
+told_none : (limits : Limits) (most : Option ℕ) (w : Known Item) (from now : ℕ) (lines : List Line) (why : Option SlotStop) → StopTells limits most w from now lines why → ended_slot why ≡ None → NoneEnded lines
+told_none limits most w from now lines None t none = absurd t
+told_none limits most w from now lines (Some stop.Closed) t none = t
+told_none limits most w from now lines (Some stop.DoorFailed) t none = t.1
+told_none limits most w from now lines (Some stop.NoMemory) t none = t
+told_none limits most w from now lines (Some stop.Served) t none = t.1
+told_none limits most w from now lines (Some (stop.Ended cause)) t none = absurd (cc (none))
+
+-- the same of the lines of all slots
+all_none : (limits : Limits) (most : Option ℕ) (w : Known Item) (from now : ℕ) (slots : List ShutSlot)
+    → All (λ s. StopTells limits most w from now s.lines.items s.stop) slots → All (λ s. ended_slot s.stop ≡ None) slots → NoneEnded (flat_map (λ s. s.lines.items) slots)
+all_none limits most w from now [] stops none = All-nil (λ (l : Line). ended_by l.end ≡ None)
+all_none limits most w from now (s ∷ slots) stops none =
+    All-append (λ (l : Line). ended_by l.end ≡ None) s.lines.items (flat_map (λ (s : ShutSlot). s.lines.items) slots)
+    (told_none limits most w from now s.lines.items s.stop (All-head (λ (t : ShutSlot). StopTells limits most w from now t.lines.items t.stop) s slots stops) (All-head (λ (t : ShutSlot). ended_slot t.stop ≡ None) s slots none))
+    (all_none limits most w from now slots (All-tail (λ (t : ShutSlot). StopTells limits most w from now t.lines.items t.stop) s slots stops) (All-tail (λ (t : ShutSlot). ended_slot t.stop ≡ None) s slots none))
+
+-- a slot whose door failed tells that the count rose
+told_rose : (limits : Limits) (most : Option ℕ) (w : Known Item) (from now : ℕ) (lines : List Line) (why : Option SlotStop) → StopTells limits most w from now lines why → has_failed_door why ≡ true → Rose from now
+told_rose limits most w from now lines None t failed = absurd t
+told_rose limits most w from now lines (Some stop.Closed) t failed = absurd (cc (failed))
+told_rose limits most w from now lines (Some stop.DoorFailed) t failed = t.0
+told_rose limits most w from now lines (Some stop.NoMemory) t failed = absurd (cc (failed))
+told_rose limits most w from now lines (Some stop.Served) t failed = absurd (cc (failed))
+told_rose limits most w from now lines (Some (stop.Ended cause)) t failed = absurd (cc (failed))
+
+-- the same of one of all slots
+any_rose : (limits : Limits) (most : Option ℕ) (w : Known Item) (from now : ℕ) (slots : List ShutSlot)
+    → All (λ s. StopTells limits most w from now s.lines.items s.stop) slots → list_any (λ s. has_failed_door s.stop) slots ≡ true → Rose from now
+any_rose limits most w from now [] stops failed = absurd (cc (failed))
+any_rose limits most w from now (s ∷ slots) stops failed =
+    one (has_failed_door s.stop) (list_any (λ (t : ShutSlot). has_failed_door t.stop) slots) failed
+    (λ yes. told_rose limits most w from now s.lines.items s.stop (All-head (λ (t : ShutSlot). StopTells limits most w from now t.lines.items t.stop) s slots stops) yes)
+    (λ yes. any_rose limits most w from now slots (All-tail (λ (t : ShutSlot). StopTells limits most w from now t.lines.items t.stop) s slots stops) yes)
+  where
+    one : (a b : Bool) → (a || b) ≡ true → (a ≡ true → Rose from now) → (b ≡ true → Rose from now) → Rose from now
+    one true b e here there = here refl
+    one false b e here there = there e
+
+-- the text that was written is a front of all that is printed
+wrote_front : (first : Loaded) (left : Left) (h0 h1 h2 : Option (List ℕ)) (f0 f1 : ℕ) (text : List ℕ) (written : Bool) → text ≡ service_text (items_of left.journal) left.lines
+    → Got h0 h1 (skipped_lines first.faults) → WrittenAs h1 h2 f0 f1 text written → GotFront h0 h2 (printed first left)
+wrote_front first left h0 h1 h2 f0 f1 text true is before wrote = got_front h0 h2 (printed first left) (got_both h0 h1 h2 (skipped_lines first.faults) (service_text (items_of left.journal) left.lines) before (subst (λ (t : List ℕ). Got h1 h2 t) is wrote))
+wrote_front first left h0 h1 h2 f0 f1 text false is before wrote = front_both h0 h1 h2 (skipped_lines first.faults) (service_text (items_of left.journal) left.lines) before (subst (λ (t : List ℕ). GotFront h1 h2 t) is wrote.0)
+
+-- the whole text was written
+wrote_whole : (first : Loaded) (left : Left) (h0 h1 h2 : Option (List ℕ)) (f0 f1 : ℕ) (text : List ℕ) → text ≡ service_text (items_of left.journal) left.lines
+    → Got h0 h1 (skipped_lines first.faults) → WrittenAs h1 h2 f0 f1 text true → Got h0 h2 (printed first left)
+wrote_whole first left h0 h1 h2 f0 f1 text is before wrote = got_both h0 h1 h2 (skipped_lines first.faults) (service_text (items_of left.journal) left.lines) before (subst (λ (t : List ℕ). Got h1 h2 t) is wrote)
+
+-- the tree and the station of a service
+abbrev pub objects_of : Outside → Objects
+objects_of out = record {
+  tree = out.tree;
+  station_before = out.station_before;
+  station = out.station;
+  station_faults_before = out.station_faults_before;
+  station_faults = out.station_faults;
+}
+
+-- what was left
+abbrev pub left_of : History → List ShutSlot → ℕ → Left
+left_of history slots doors = record { journal = history; lines = flat_map (λ s. s.lines.items) slots; doors = doors }
+
+-- what holds of what was left
+is_left : (plan : ServePlan) (first : Loaded) (out : Outside) (history : History) (slots : List ShutSlot) (kept : Option EndCause) (run : HasRun plan first (objects_of out) history slots kept) → IsLeft plan out (left_of history slots run.doors)
+is_left plan first out history slots kept run = record { legal = run.legal; licensed = access (items_of history) run.legal.history; slots = run.served; doors = run.back }
+
+-- the lock was not ended
+was_whole : (plan : ServePlan) (first : Loaded) (out : Outside) (history : History) (slots : List ShutSlot) (text : List ℕ) (run : HasRun plan first (objects_of out) history slots None)
+    → IsPrinted (items_of history) (flat_map (λ s. s.lines.items) slots) (length slots) None text → WasWhole plan out (left_of history slots run.doors)
+was_whole plan first out history slots text run told =
+    let whole = run.whole refl in
+    record {
+      doors = whole.all.0;
+      none_ended = all_none plan.limits plan.stop_after whole.stopped.known out.station_faults_before out.station_faults slots whole.stopped.stops whole.stopped.none_ended;
+      loads = whole.loads;
+      all_loads = told.loads refl;
+    }
+
+-- the service was served, and what it printed is a front of its text
+served_so : (plan : ServePlan) (first : Loaded) (out : Outside) (history : History) (slots : List ShutSlot) (kept : Option EndCause) (text : List ℕ) (run : HasRun plan first (objects_of out) history slots kept)
+    → IsFirst plan out first → IsPrinted (items_of history) (flat_map (λ s. s.lines.items) slots) (length slots) kept text
+    → GotFront out.held_before out.held (printed first (left_of history slots run.doors)) → HasServed plan out first (left_of history slots run.doors)
+served_so plan first out history slots kept text run is_first told written = record {
+  is_first = is_first;
+  is_left = is_left plan first out history slots kept run;
+  begins = run.begins;
+  orderly = told.orderly;
+  written = written;
+}
+
+-- how the service ended, by the kept cause, by whether memory was refused to a slot, by whether a door failed, and by whether all was written
+serves_by : (plan : ServePlan) (first : Loaded) (out : Outside) (history : History) (slots : List ShutSlot) (kept : Option EndCause) (text : List ℕ) (h1 : Option (List ℕ)) (faults : ℕ) (run : HasRun plan first (objects_of out) history slots kept)
+    → IsFirst plan out first → IsPrinted (items_of history) (flat_map (λ s. s.lines.items) slots) (length slots) kept text
+    → Got out.held_before h1 (skipped_lines first.faults) → out.write_faults_before ≤ faults
+    → (no_memory failed written : Bool) → list_any (λ s. has_no_memory s.stop) slots ≡ no_memory → list_any (λ s. has_failed_door s.stop) slots ≡ failed
+    → WrittenAs h1 out.held faults out.write_faults text written → Serves plan out (end_of kept slots written)
+serves_by plan first out history slots (Some (cause.JournalFull entries bytes)) text h1 faults run is_first told before later no_memory failed written n d wrote =
+    let left = left_of history slots run.doors in
+    record { first = first; left = left; served = served_so plan first out history slots (Some (cause.JournalFull entries bytes)) text run is_first told (wrote_front first left out.held_before h1 out.held faults out.write_faults text written told.text_is before wrote); more = run.cause }
+serves_by plan first out history slots (Some (cause.Admissions admitted)) text h1 faults run is_first told before later no_memory failed written n d wrote =
+    let left = left_of history slots run.doors in
+    let few = run.few in
+    let many = told.passes admitted refl in
+    record { first = first; left = left; served = served_so plan first out history slots (Some (cause.Admissions admitted)) text run is_first told (wrote_front first left out.held_before h1 out.held faults out.write_faults text written told.text_is before wrote); more = (run.cause, omega (arith, few, many)) }
+serves_by plan first out history slots (Some cause.NoMemory) text h1 faults run is_first told before later no_memory failed written n d wrote =
+    let left = left_of history slots run.doors in
+    inr (inr (record { first = first; is_first = is_first; left = left; is_left = is_left plan first out history slots (Some cause.NoMemory) run; written = wrote_front first left out.held_before h1 out.held faults out.write_faults text written told.text_is before wrote }))
+serves_by plan first out history slots None text h1 faults run is_first told before later true failed written n d wrote =
+    let left = left_of history slots run.doors in
+    rw n (inr (inr (record { first = first; is_first = is_first; left = left; is_left = is_left plan first out history slots None run; written = wrote_front first left out.held_before h1 out.held faults out.write_faults text written told.text_is before wrote })))
+serves_by plan first out history slots None text h1 faults run is_first told before later false true written n d wrote =
+    let left = left_of history slots run.doors in
+    let whole = run.whole refl in
+    rw (n, d) (
+      any_rose plan.limits plan.stop_after whole.stopped.known out.station_faults_before out.station_faults slots whole.stopped.stops d,
+      inr (record { first = first; left = left; served = served_so plan first out history slots None text run is_first told (wrote_front first left out.held_before h1 out.held faults out.write_faults text written told.text_is before wrote); more = was_whole plan first out history slots text run told }),
+    )
+serves_by plan first out history slots None text h1 faults run is_first told before later false false true n d wrote =
+    let left = left_of history slots run.doors in
+    rw (n, d) (record { first = first; left = left; served = served_so plan first out history slots None text run is_first told (wrote_front first left out.held_before h1 out.held faults out.write_faults text true told.text_is before wrote); more = (was_whole plan first out history slots text run told, wrote_whole first left out.held_before h1 out.held faults out.write_faults text told.text_is before wrote) })
+serves_by plan first out history slots None text h1 faults run is_first told before later false false false n d wrote =
+    let left = left_of history slots run.doors in
+    let rose = wrote.1 in
+    rw (n, d) (
+      omega (arith, later, rose),
+      inr (record { first = first; left = left; served = served_so plan first out history slots None text run is_first told (wrote_front first left out.held_before h1 out.held faults out.write_faults text false told.text_is before wrote); more = was_whole plan first out history slots text run told }),
+    )
+
+-- a service whose slots ended, once its lines were printed
+pub serves_told : (plan : ServePlan) (first : Loaded) (out : Outside) (history : History) (slots : List ShutSlot) (kept : Option EndCause) (h1 : Option (List ℕ)) (faults : ℕ) (e : ServiceEnd)
+    → HasRun plan first (objects_of out) history slots kept → IsFirst plan out first → Got out.held_before h1 (skipped_lines first.faults) → out.write_faults_before ≤ faults
+    → WasUntold h1 out.held e ⊎ WasPrinted (items_of history) (flat_map (λ s. s.lines.items) slots) kept slots h1 out.held faults out.write_faults e
+    → Serves plan out e
+serves_told plan first out history slots kept h1 faults e run is_first before later (inl untold) =
+    let left = left_of history slots run.doors in
+    subst (λ (x : ServiceEnd). Serves plan out x) (sym untold.end_is)
+    (inr (inr (record { first = first; is_first = is_first; left = left; is_left = is_left plan first out history slots kept run; written = front_only out.held_before h1 out.held (skipped_lines first.faults) (service_text (items_of history) left.lines) before untold.same })))
+serves_told plan first out history slots kept h1 faults e run is_first before later (inr told) =
+    subst (λ (x : ServiceEnd). Serves plan out x) (sym told.end_is)
+    (serves_by plan first out history slots kept told.text h1 faults run is_first told.printed before later (list_any (λ s. has_no_memory s.stop) slots) (list_any (λ s. has_failed_door s.stop) slots) told.written refl refl told.wrote)
+
+-- a service that was cut short before there was a connection
+pub unbegun_short : (plan : ServePlan) (first : Loaded) (out : Outside) (objects : Objects) (why : Unbegun) → objects.station_before ≡ out.station_before → objects.station ≡ out.station
+    → IsShort plan objects why → IsFirst plan out first → GotFront out.held_before out.held (skipped_lines first.faults) → IsUnbegun plan out
+unbegun_short plan first out objects why before now short is_first written = record {
+  first = first;
+  is_first = is_first;
+  doors = short.doors;
+  back = rw (sym before, sym now) short.back;
+  unserved = rw (sym before, sym now) short.unserved;
+  written = written;
+}
+
+-- a service whose first load is refused
+pub refused_serves : (plan : ServePlan) (out : Outside) (refused : LoadRefused) → IfSome out.tree (λ tree. LoadsAs (load_of tree plan.root) (Err refused)) → FaultCause out.tree_faults_before out.tree_faults refused
+    → IsUntouched out → Serves plan out (end_of_refused refused)
+refused_serves plan out (load_refused.TreeFault count) loads cause same = (same, cause.0, cause.1)
+refused_serves plan out (load_refused.Limit which count) loads cause same = (same, loads)
+refused_serves plan out (load_refused.BadTable file why) loads cause same = (same, loads)
+refused_serves plan out load_refused.NoMemory loads cause same = inl same

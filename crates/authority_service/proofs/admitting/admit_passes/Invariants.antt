@@ -1,0 +1,12 @@
+-- So many passes were made.
+use Rattle.std.proofs.Common.{◌≡◌, ◌≤◌, vec_len}
+use Rattle.std.specs.Vec.{vec_capacity}
+use mathlib.Core.List.{IsPrefix}
+use Rattle.authority_service.proofs.admitting.admit_passes.Given as goal
+
+abbrev pub invariant-loop-index : goal.invariant-loop-index
+invariant-loop-index g l = record {
+  made : vec_len l.passes ≡ l._index;
+  room : l.count ≤ vec_capacity l.passes;
+  grows : IsPrefix l.fn.control.history l.control.history;
+}

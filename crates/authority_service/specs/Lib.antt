@@ -1,0 +1,10 @@
+pub mod Places
+pub mod Shutting
+pub mod Causes
+pub mod Beginning
+pub mod Running
+pub mod Lines
+pub mod Service
+pub mod Printing
+pub mod Begun
+pub mod Ends

@@ -1,0 +1,46 @@
+-- What a service prints of its closed journal.
+use Rattle.std.specs.Prelude.{ℕ, List, [], ◌∷◌, ◌++◌, codes}
+use Rattle.std.specs.Fmt.{decimal}
+use Rattle.std.specs.List.{flat_map}
+use Rattle.authority_model.specs.declared.journal.Item.{Item}
+use Rattle.connection_serve.specs.declared.ends.End.{End}
+use Rattle.connection_serve.specs.declared.ends.End.TheVariants as end
+use Rattle.journal_scan.specs.declared.counts.Tally.{Tally}
+use Rattle.journal_scan.specs.declared.counts.Totals.{Totals}
+use Rattle.journal_scan.specs.declared.lines.ConnectionLine.{ConnectionLine}
+use Rattle.journal_scan.specs.Counts.{tally_of, totals_of}
+use Rattle.service_slots.specs.declared.line.Line.{Line}
+
+-- the word for how a connection ended
+abbrev pub end_word : End → List ℕ
+end_word (end.Ended cause) = codes "ended"
+end_word end.WriteFault = codes "write-fault"
+end_word end.ReadFault = codes "read-fault"
+end_word (end.BadShake fault) = codes "bad-handshake"
+end_word end.ShakeCut = codes "bad-handshake"
+end_word (end.BadBytes _ at) = codes "bad-bytes"
+end_word (end.Truncated rest) = codes "truncated"
+end_word end.Done = codes "done"
+end_word end.NoMemory = codes "no-memory"
+
+-- `connection N UID END MESSAGES ANSWERS`
+abbrev pub connection_line : Line → Tally → List ℕ
+connection_line line tally =
+    codes "connection " ++ (decimal line.number ++ (codes " " ++ (decimal line.uid ++ (codes " "
+    ++ (end_word line.end ++ (codes " " ++ (decimal tally.messages ++ (codes " " ++ (decimal tally.answers ++ 10 ∷ [])))))))))
+
+-- the lines of all connections, in their order, with what is counted of each in a history
+abbrev pub connection_lines : List Item → List Line → List ℕ
+connection_lines past lines = flat_map (λ line. connection_line line (tally_of past line.number)) lines
+
+-- `entries E loads L refused R`
+abbrev pub entries_line : Totals → List ℕ
+entries_line totals = codes "entries " ++ (decimal totals.entries ++ (codes " loads " ++ (decimal totals.loads ++ (codes " refused " ++ (decimal totals.refused ++ 10 ∷ [])))))
+
+-- all lines of a history and of the connections that were served
+abbrev pub service_text : List Item → List Line → List ℕ
+service_text past lines = connection_lines past lines ++ entries_line (totals_of past)
+
+-- what a `connection` line tells to whoever looks through the journal
+abbrev pub scanned : Line → ConnectionLine
+scanned line = record { number = line.number; uid = line.uid }

@@ -1,0 +1,35 @@
+-- Which doors the slots of a plan have, in their order.
+use Rattle.std.specs.Prelude.{◌≡◌, ◌++◌, ◌/◌, ◌%◌, [], ◌∷◌, ℕ, zero, suc, List, Option, Some, map, slice_index_or}
+use Rattle.pk_outside.specs.Stations.{StationTold, first_list, other_lists}
+use Rattle.door_words.specs.declared.door.DoorPath.{DoorPath}
+use Rattle.service_slots.specs.Doors.{DoorMade}
+
+-- what a station has left to give behind so many doors
+abbrev pub links_behind : List (List (List ℕ)) → ℕ → List (List (List ℕ))
+links_behind links zero = links
+links_behind links (suc k) = other_lists (links_behind links k)
+
+-- a path that no plan has
+abbrev pub no_path : DoorPath
+no_path = record { uid = 0; path = [] }
+
+-- The door of the k-th slot, where each path has so many slots: the slots stand in the order of the paths and, for one path, by their numbers from 0. It has the k-th of the links that the station gives.
+abbrev pub nth_door : List DoorPath → ℕ → List (List (List ℕ)) → ℕ → DoorMade
+nth_door paths each links k = record {
+  uid = (slice_index_or paths (k / each) no_path).uid;
+  path = (slice_index_or paths (k / each) no_path).path;
+  slot = k % each;
+  links = first_list (links_behind links k);
+}
+
+-- the doors of the first k slots
+abbrev pub first_doors : List DoorPath → ℕ → List (List (List ℕ)) → ℕ → List DoorMade
+first_doors paths each links zero = []
+first_doors paths each links (suc k) = first_doors paths each links k ++ nth_door paths each links k ∷ []
+
+-- The doors of the first k slots were made at a station, in their order, and nothing came back to it.
+pub record OpensFirst (paths : List DoorPath) (each k : ℕ) (before after : Option StationTold) (made : List (Option DoorMade)) : Type 0 where
+  pub where_told : (now : StationTold) → after ≡ Some now
+      → (old : StationTold) × (before ≡ Some old)
+      × (made ≡ map (λ door. Some door) (first_doors paths each old.doors k))
+      × (now.doors ≡ links_behind old.doors k) × (now.shut ≡ old.shut)

@@ -1,0 +1,38 @@
+-- What the slots and the loader of a service leave.
+use Rattle.std.specs.Prelude.{ℕ, List, Option, None, Some, Result, Ok, Err}
+use mathlib.Core.List.{IsPrefix}
+use Rattle.history_lock.specs.Known.{Known}
+use Rattle.history_lock.specs.declared.machine.EndCause.{EndCause}
+use Rattle.authority_model.specs.declared.journal.Item.{Item}
+use Rattle.authority_model.specs.declared.journal.Limits.{Limits}
+use Rattle.authority_model.specs.Words.{Bytes}
+use Rattle.pk_outside.specs.Trees.{TreeTold}
+use Rattle.serve_loader.specs.declared.ends.LoaderEnd.{LoaderEnd}
+use Rattle.serve_loader.specs.declared.ends.LoaderEnd.TheVariants as loader
+use Rattle.serve_loader.specs.Loads.{Loads}
+use Rattle.service_slots.specs.declared.stop.SlotStop.{SlotStop}
+use Rattle.service_slots.specs.declared.stop.SlotStop.TheVariants as stop
+
+-- The loader loaded to its end, by what it knew of this journal: it stood for `before` when it began and for `after` when it ended, and the tree counted from so many faults up to so many.
+pub record LoadsAll (limits : Limits) (told : Option TreeTold) (root : Bytes) (journal : List Item) : Type 0 where
+  pub from : ℕ
+  pub until : ℕ
+  pub before : Known Item
+  pub after : Known Item
+  pub begins : IsPrefix after.history journal
+  pub loads : Loads limits told root from until before after loader.Stopped
+
+-- the cause by which the lock stopped a slot, if it did
+abbrev pub ended_slot : Option SlotStop → Option EndCause
+ended_slot (Some (stop.Ended cause)) = Some cause
+ended_slot _ = None
+
+-- the cause by which the lock ended the loader, if it did
+abbrev pub ended_loader : LoaderEnd → Option EndCause
+ended_loader loader.Stopped = None
+ended_loader (loader.Ended cause) = Some cause
+
+-- the cause by which Stop was refused, if it was
+abbrev pub refused_stop : Result (Unit {0}) EndCause → Option EndCause
+refused_stop (Ok done) = None
+refused_stop (Err cause) = Some cause

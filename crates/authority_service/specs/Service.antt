@@ -1,0 +1,188 @@
+-- What a service does, by how it ended.
+use Rattle.std.specs.Prelude.{◌≡◌, ◌⊎◌, ◌++◌, ◌*◌, ◌+◌, ◌≤◌, ℕ, Bool, true, false, if◌then◌else◌, List, [], Option, None, Some, Ok, Err, IfSome, length, map}
+use Rattle.std.specs.List.{list_any}
+use Rattle.authority_laws.specs.Batches.{in_order}
+use Rattle.authority_model.specs.declared.journal.History.{History}
+use Rattle.authority_model.specs.declared.load.Loaded.{Loaded}
+use Rattle.authority_model.specs.Items.{items_of}
+use Rattle.authority_model.specs.Licensed.{AllLicensed}
+use Rattle.history_lock.specs.declared.machine.EndCause.{EndCause}
+use Rattle.history_lock.specs.declared.machine.EndCause.TheVariants as cause
+use Rattle.journal_scan.specs.declared.counts.Totals.{Totals}
+use Rattle.journal_scan.specs.declared.counts.TheConstants.{PLACES}
+use Rattle.journal_scan.specs.Counts.{totals_of}
+use Rattle.journal_scan.specs.Orderly.{IsOrderly}
+use Rattle.pk_outside.specs.Causes.{Rose}
+use Rattle.pk_outside.specs.Stations.{DoorBack, StationTold}
+use Rattle.pk_outside.specs.Streams.{Got, GotFront}
+use Rattle.pk_outside.specs.Trees.{TreeTold}
+use Rattle.policy_load.specs.Loads.{load_of}
+use Rattle.scenario_text.specs.Skipped.{skipped_lines}
+use Rattle.serve_words.specs.declared.plan.ServePlan.{ServePlan}
+use Rattle.service_slots.specs.declared.line.Line.{Line}
+use Rattle.service_slots.specs.declared.opening.ShutSlot.{ShutSlot}
+use Rattle.service_slots.specs.declared.stop.SlotStop.{SlotStop}
+use Rattle.service_slots.specs.declared.stop.SlotStop.TheVariants as stop
+use Rattle.service_slots.specs.Doors.{door_made}
+use Rattle.service_slots.specs.Served.{SlotsOf}
+use Rattle.service_slots.specs.Stops.{NoneEnded}
+use Rattle.shared_authority.specs.Journals.{IsJournal}
+use Rattle.authority_service.specs.declared.ends.ServiceEnd.{ServiceEnd}
+use Rattle.authority_service.specs.declared.ends.ServiceEnd.TheVariants as end
+use Rattle.authority_service.specs.Beginning.{BeginsWith}
+use Rattle.authority_service.specs.Causes.{FitsJournal}
+use Rattle.authority_service.specs.Lines.{scanned, service_text}
+use Rattle.authority_service.specs.Places.{first_doors}
+use Rattle.authority_service.specs.Running.{LoadsAll}
+
+-- What the objects of the outside told and counted before a service and after it: its tree, its station and its output.
+pub record Outside : Type 0 where
+  pub tree : Option TreeTold
+  pub tree_faults_before : ℕ
+  pub tree_faults : ℕ
+  pub station_before : Option StationTold
+  pub station : Option StationTold
+  pub station_faults_before : ℕ
+  pub station_faults : ℕ
+  pub held_before : Option (List ℕ)
+  pub held : Option (List ℕ)
+  pub write_faults_before : ℕ
+  pub write_faults : ℕ
+
+-- what a tree, a station and an output told and counted, before a service and after it
+abbrev pub outside : Option TreeTold → ℕ → ℕ → Option StationTold → Option StationTold → ℕ → ℕ → Option (List ℕ) → Option (List ℕ) → ℕ → ℕ → Outside
+outside tree tree_faults_before tree_faults station_before station station_faults_before station_faults held_before held write_faults_before write_faults = record {
+  tree = tree;
+  tree_faults_before = tree_faults_before;
+  tree_faults = tree_faults;
+  station_before = station_before;
+  station = station;
+  station_faults_before = station_faults_before;
+  station_faults = station_faults;
+  held_before = held_before;
+  held = held;
+  write_faults_before = write_faults_before;
+  write_faults = write_faults;
+}
+
+-- What a service leaves: the closed journal, the line of each connection that it served, and how many doors were made.
+pub record Left : Type 0 where
+  pub journal : History
+  pub lines : List Line
+  pub doors : ℕ
+
+-- The doors that came back, behind those before, are the first `count` of the plan, in their order: one for each slot.
+pub record DoorsBack (plan : ServePlan) (count : ℕ) (before after : Option StationTold) : Type 0 where
+  pub where_told : (now : StationTold) → after ≡ Some now
+      → (old : StationTold) × (before ≡ Some old) × (backs : List DoorBack)
+      × (now.shut ≡ old.shut ++ backs) × (map (λ back. door_made back.door) backs ≡ first_doors plan.doors plan.slots old.doors count)
+
+-- What holds of the journal and of the lines, whatever the end: the journal is legal, each yes in it is licensed, and each line speaks of the link that came back in its place.
+pub record IsLeft (plan : ServePlan) (out : Outside) (left : Left) : Type 0 where
+  pub legal : IsJournal (in_order left.journal)
+  pub licensed : AllLicensed (items_of left.journal)
+  -- where no door came back to the station before
+  pub slots : SlotsOf [] out.station_before [] → SlotsOf (in_order left.journal) out.station left.lines
+  pub doors : DoorsBack plan left.doors out.station_before out.station
+
+-- what a service prints: what the first load skipped, and then the lines of the journal and of the connections
+abbrev pub printed : Loaded → Left → List ℕ
+printed first left = skipped_lines first.faults ++ service_text (items_of left.journal) left.lines
+
+-- the first load is that of the tree, where the tree tells its files
+abbrev pub IsFirst : ServePlan → Outside → Loaded → Type 0
+IsFirst plan out first = IfSome out.tree (λ tree. load_of tree plan.root ≡ Ok first)
+
+-- A service began with this first load, and left this.
+pub record HasServed (plan : ServePlan) (out : Outside) (first : Loaded) (left : Left) : Type 0 where
+  pub is_first : IsFirst plan out first
+  pub is_left : IsLeft plan out left
+  pub begins : BeginsWith first (in_order left.journal)
+  pub orderly : IsOrderly (map scanned left.lines) (items_of left.journal)
+  pub written : GotFront out.held_before out.held (printed first left)
+
+-- how many slots a plan has
+abbrev pub slots_of : ServePlan → ℕ
+slots_of plan = length plan.doors * plan.slots
+
+-- as many loads were made as were wanted before the Stop, besides the first
+abbrev pub AreAllLoads : Totals → Type 0
+AreAllLoads totals = totals.loads + totals.refused ≡ totals.wanted + 1
+
+-- The lock was not ended: each slot had its door, no connection was ended by the lock, and the loader loaded to its end.
+pub record WasWhole (plan : ServePlan) (out : Outside) (left : Left) : Type 0 where
+  pub doors : left.doors ≡ slots_of plan
+  pub none_ended : NoneEnded left.lines
+  pub loads : LoadsAll plan.limits out.tree plan.root (in_order left.journal)
+  pub all_loads : AreAllLoads (totals_of (items_of left.journal))
+
+-- so many passes cannot have been made by fewer connections and slots
+abbrev pub AdmitsAll : ServePlan → Left → Type 0
+AdmitsAll plan left = PLACES ≤ 2 * length left.lines + 3 * slots_of plan + 2
+
+-- nothing was made, taken or written
+pub record IsUntouched (out : Outside) : Type 0 where
+  pub station : out.station ≡ out.station_before
+  pub station_faults : out.station_faults ≡ out.station_faults_before
+  pub held : out.held ≡ out.held_before
+
+-- No connection was served: the doors that were made came back as they were, and a front of what the first load skipped was written.
+pub record IsUnbegun (plan : ServePlan) (out : Outside) : Type 0 where
+  pub first : Loaded
+  pub is_first : IsFirst plan out first
+  pub doors : ℕ
+  pub back : DoorsBack plan doors out.station_before out.station
+  pub unserved : SlotsOf [] out.station_before [] → SlotsOf [] out.station []
+  pub written : GotFront out.held_before out.held (skipped_lines first.faults)
+
+-- Memory was refused, whenever that was: nothing was served, or what was left is as always.
+pub record WasCutShort (plan : ServePlan) (out : Outside) : Type 0 where
+  pub first : Loaded
+  pub is_first : IsFirst plan out first
+  pub left : Left
+  pub is_left : IsLeft plan out left
+  pub written : GotFront out.held_before out.held (printed first left)
+
+-- a service that was served, of which more holds
+pub record Ended (plan : ServePlan) (out : Outside) (More : Loaded → Left → Type 0) : Type 0 where
+  pub first : Loaded
+  pub left : Left
+  pub served : HasServed plan out first left
+  pub more : More first left
+
+-- What a service does, by how it ended.
+abbrev pub Serves : ServePlan → Outside → ServiceEnd → Type 0
+Serves plan out (end.TreeFault count) = IsUntouched out × (count ≡ out.tree_faults) × Rose out.tree_faults_before out.tree_faults
+Serves plan out (end.LoadRefused refused) = IsUntouched out × IfSome out.tree (λ tree. load_of tree plan.root ≡ Err refused)
+Serves plan out end.NoMemory = IsUntouched out ⊎ (IsUnbegun plan out ⊎ WasCutShort plan out)
+Serves plan out end.DoorFault = Rose out.station_faults_before out.station_faults × (IsUnbegun plan out ⊎ Ended plan out (λ first left. WasWhole plan out left))
+Serves plan out end.WriteFault = Rose out.write_faults_before out.write_faults × (IsUnbegun plan out ⊎ Ended plan out (λ first left. WasWhole plan out left))
+Serves plan out end.Done = Ended plan out (λ first left. WasWhole plan out left × Got out.held_before out.held (printed first left))
+Serves plan out (end.JournalFull entries bytes) = Ended plan out (λ first left. FitsJournal plan.limits (cause.JournalFull entries bytes) (in_order left.journal))
+Serves plan out (end.Admissions admitted) = Ended plan out (λ first left. FitsJournal plan.limits (cause.Admissions admitted) (in_order left.journal) × AdmitsAll plan left)
+
+-- # How the end is chosen
+
+-- memory was refused to a slot or to its door
+abbrev pub has_no_memory : Option SlotStop → Bool
+has_no_memory (Some stop.NoMemory) = true
+has_no_memory _ = false
+
+-- the door of a slot failed
+abbrev pub has_failed_door : Option SlotStop → Bool
+has_failed_door (Some stop.DoorFailed) = true
+has_failed_door _ = false
+
+-- the end of a service whose lock was not ended, by why its slots stopped and whether all was written
+abbrev pub end_of_stops : List ShutSlot → Bool → ServiceEnd
+end_of_stops slots written =
+    if list_any (λ s. has_no_memory s.stop) slots then end.NoMemory else
+    (if list_any (λ s. has_failed_door s.stop) slots then end.DoorFault else
+    (if written then end.Done else end.WriteFault))
+
+-- the end of a service: the kept cause of the lock comes first
+abbrev pub end_of : Option EndCause → List ShutSlot → Bool → ServiceEnd
+end_of (Some (cause.JournalFull entries bytes)) slots written = end.JournalFull entries bytes
+end_of (Some (cause.Admissions admitted)) slots written = end.Admissions admitted
+end_of (Some cause.NoMemory) slots written = end.NoMemory
+end_of None slots written = end_of_stops slots written

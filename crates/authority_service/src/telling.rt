@@ -1,0 +1,142 @@
+// What a service prints at its end, and how it ends.
+ghost use Rattle.std.specs.Prelude.{◌≡◌, ◌≤◌, ◌+◌, ◌*◌, ◌⊎◌, ℕ, IfOk, IsTrue, None, Some, flat_map, length};
+ghost use Rattle.std.specs.List.{list_any};
+ghost use Rattle.authority_model.specs.Items.{items_of};
+ghost use Rattle.authority_service.specs.Service.{AreAllLoads, end_of, end_of_stops, has_failed_door, has_no_memory};
+ghost use Rattle.authority_service.specs.Printing.{IsPrinted, WasPrinted, WasUntold};
+ghost use Rattle.history_lock.specs.declared.machine.EndCause.TheVariants as cause;
+ghost use Rattle.journal_scan.specs.declared.counts.TheConstants.{PLACES};
+
+use crate::ends::ServiceEnd;
+use crate::lines::{all_lines, scanned_lines, service_text};
+use crate::running::Ran;
+use history_lock::EndCause;
+use journal_scan::{PLACES, Totals, scan_journal};
+use pk_outside::{Sink, write_all};
+use pk_types::{ByteList, NoMemory};
+use service_slots::{ShutSlot, SlotStop};
+use std::alloc::Global;
+
+/// Whether as many loads were made as were wanted before the Stop, besides the first.
+fn are_all_loads(totals: &Totals) -> bool
+    ensures { IsTrue result → AreAllLoads totals.now }
+{
+    match (
+        totals.loads.checked_add(totals.refused),
+        totals.wanted.checked_add(1),
+    ) {
+        (Some(made), Some(due)) => made == due,
+        _ => false,
+    }
+}
+
+/// Whether all passes can have been made by so many connections and slots.
+fn admits_all(lines: usize, slots: usize) -> bool
+    ensures { IsTrue result → PLACES ≤ 2 * lines + 3 * slots + 2 }
+{
+    lines >= PLACES || slots >= PLACES || 2 * lines + 3 * slots + 2 >= PLACES
+}
+
+/// Whether memory was refused to a slot or to its door.
+fn has_no_memory(slot: &ShutSlot) -> bool
+    ensures { result ≡ has_no_memory slot.now.stop }
+{
+    matches!(slot.stop, Some(SlotStop::NoMemory))
+}
+
+/// Whether the door of a slot failed.
+fn has_failed_door(slot: &ShutSlot) -> bool
+    ensures { result ≡ has_failed_door slot.now.stop }
+{
+    matches!(slot.stop, Some(SlotStop::DoorFailed))
+}
+
+/// Whether memory was refused to one of the slots.
+fn any_without_memory(slots: &[ShutSlot]) -> bool
+    ensures { result ≡ list_any (λ s. has_no_memory s.stop) slots.now }
+{
+    slots.iter().any(|slot| has_no_memory(slot))
+}
+
+/// Whether the door of one of the slots failed.
+fn any_failed_door(slots: &[ShutSlot]) -> bool
+    ensures { result ≡ list_any (λ s. has_failed_door s.stop) slots.now }
+{
+    slots.iter().any(|slot| has_failed_door(slot))
+}
+
+/// The end of a service whose lock was not ended.
+fn end_of_stops(slots: &[ShutSlot], written: bool) -> ServiceEnd
+    ensures { result ≡ end_of_stops slots.now written }
+{
+    if any_without_memory(slots) {
+        ServiceEnd::NoMemory
+    } else if any_failed_door(slots) {
+        ServiceEnd::DoorFault
+    } else if written {
+        ServiceEnd::Done
+    } else {
+        ServiceEnd::WriteFault
+    }
+}
+
+impl Ran {
+    /// Whether the counts of the journal fit the kept cause. They always do.
+    fn fits(&self, totals: &Totals, lines: usize) -> bool
+        ensures loads { IsTrue result → self.now.cause ≡ None → AreAllLoads totals.now }
+        ensures passes { IsTrue result → (admitted : ℕ) → self.now.cause ≡ Some (cause.Admissions admitted) → PLACES ≤ 2 * lines + 3 * length self.now.slots.items + 2 }
+    {
+        match self.cause {
+            None => are_all_loads(totals),
+            Some(EndCause::Admissions { .. }) => admits_all(lines, self.slots.len()),
+            Some(_) => true,
+        }
+    }
+
+    /// How the service ended.
+    fn end(&self, written: bool) -> ServiceEnd
+        ensures end { result ≡ end_of self.now.cause self.now.slots.items written }
+    {
+        match self.cause {
+            Some(EndCause::JournalFull { entries, bytes }) => {
+                ServiceEnd::JournalFull { entries, bytes }
+            }
+            Some(EndCause::Admissions { admitted }) => ServiceEnd::Admissions { admitted },
+            Some(EndCause::NoMemory) => ServiceEnd::NoMemory,
+            None => end_of_stops(self.slots.as_slice(), written),
+        }
+    }
+
+    /// The text of the lines, once the facts that no connection can know by itself were found in the
+    /// journal. They always are.
+    ///
+    /// # Errors
+    /// `NoMemory` alone.
+    fn printed(&self, alloc: Global) -> Result<ByteList, NoMemory>
+        ensures printed { IfOk result (IsPrinted (items_of self.now.authority.history) (flat_map (λ s. s.lines.items) self.now.slots.items) (length self.now.slots.items) self.now.cause) }
+    {
+        let lines = all_lines(alloc, self.slots.as_slice())?;
+        let scanned = scanned_lines(alloc, lines.as_slice())?;
+        let history = self.authority.history();
+        let Some(counts) = scan_journal(alloc, history, scanned.as_slice())? else {
+            return Err(NoMemory);
+        };
+        if !self.fits(&counts.totals, lines.len()) {
+            return Err(NoMemory);
+        }
+        service_text(alloc, lines.as_slice(), &counts)
+    }
+
+    /// Prints the lines, and answers how the service ended.
+    pub fn tell<O: Sink>(&self, alloc: Global, output: &mut O) -> ServiceEnd
+        ensures told { WasUntold (O.held output.old) (O.held output.new) result
+            ⊎ WasPrinted (items_of self.now.authority.history) (flat_map (λ s. s.lines.items) self.now.slots.items) self.now.cause self.now.slots.items (O.held output.old) (O.held output.new) (O.faults output.old) (O.faults output.new) result }
+        ensures later { O.faults output.old ≤ O.faults output.new }
+    {
+        let Ok(text) = self.printed(alloc) else {
+            return ServiceEnd::NoMemory;
+        };
+        let written = write_all(output, text.as_slice()).is_ok();
+        self.end(written)
+    }
+}
