@@ -1,0 +1,404 @@
+// Agents over links in memory: what the authority and the helper's door give, and what comes of it.
+use crate::doors::{Faults, NONE, TwoDoors, joined, link, output, texts, written};
+use crate::messages::Part;
+use dbus_values::FaultKind;
+use link_handshake::ShakeFault;
+use pk_outside::{ByteSink, ListTree, TreeFile};
+use pk_types::{ByteList, List, Text, TextList};
+use script_agent::{AgentStatus, script_agent};
+use std::alloc::Global;
+use std::test::Fail;
+
+/// An agent's run.
+#[derive(Clone, Copy)]
+struct Row {
+    shows: &'static str,
+    door_at: &'static str,
+    door: &'static [Part],
+    helper_at: &'static str,
+    helper: &'static [Part],
+    rules_at: &'static str,
+    rules: &'static str,
+    count: &'static str,
+    faults: Faults,
+    status: AgentStatus,
+    code: u8,
+    printed: &'static str,
+    sent: &'static [Part],
+    asked: &'static [Part],
+}
+
+/// One challenge that is answered for a user.
+const ONE: Row = Row {
+    shows: "one challenge is answered for a user",
+    door_at: "1000:/u",
+    door: &[Part::Accepts, Part::DoneTo1, Part::Begin2],
+    helper_at: "/h",
+    helper: &[Part::Accepts, Part::DoneTo1],
+    rules_at: "/rules",
+    rules: "a.* user:1000",
+    count: "1",
+    faults: NONE,
+    status: AgentStatus::Done,
+    code: 0,
+    printed: "a.self return\n",
+    sent: &[
+        Part::AuthAlice,
+        Part::BeginLine,
+        Part::Register,
+        Part::Return2To2,
+    ],
+    asked: &[Part::AuthRoot, Part::BeginLine, Part::Respond1],
+};
+
+/// What an agent has sent that is registered, or waits for that.
+const REGISTERED: &[Part] = &[Part::AuthAlice, Part::BeginLine, Part::Register];
+
+/// A run that ends before anything was dialled.
+const UNDIALLED: Row = Row {
+    code: 127,
+    printed: "",
+    sent: &[],
+    asked: &[],
+    ..ONE
+};
+
+/// A run that ends behind the registration.
+const UNANSWERED: Row = Row {
+    code: 127,
+    printed: "",
+    sent: REGISTERED,
+    asked: &[],
+    ..ONE
+};
+
+const BAD_SHAKE: AgentStatus = AgentStatus::BadShake {
+    fault: ShakeFault::BadLine,
+};
+
+const BAD_BYTES: AgentStatus = AgentStatus::BadBytes {
+    kind: FaultKind::Endian,
+    at: 0,
+};
+
+/// Runs that meet their challenges.
+fn met() -> &'static [Row] {
+    &[
+        ONE,
+        Row {
+            shows: "challenges of each kind, behind other messages; the helper refuses the second",
+            rules: "a.self user:1000\na.admin user:1000\nb.* dismiss\nd fail\n",
+            count: "4",
+            door: &[
+                Part::Accepts,
+                Part::Signal,
+                Part::DoneTo1,
+                Part::Begin2,
+                Part::EndOf1,
+                Part::Begin3,
+                Part::Begin4,
+                Part::Begin5,
+                Part::Begin2,
+            ],
+            helper: &[Part::Accepts, Part::DoneTo1, Part::RefusedTo2],
+            printed: "a.self return\na.admin fail\nb.no dismiss\nc.none fail\n",
+            sent: &[
+                Part::AuthAlice,
+                Part::BeginLine,
+                Part::Register,
+                Part::Return2To2,
+                Part::Failed3To3,
+                Part::Cancelled4To4,
+                Part::Failed5To5,
+            ],
+            asked: &[
+                Part::AuthRoot,
+                Part::BeginLine,
+                Part::Respond1,
+                Part::Respond2,
+            ],
+            ..ONE
+        },
+        Row {
+            shows: "a challenge is dismissed without the helper",
+            rules: "b.no dismiss\n* user:1000\n",
+            door: &[Part::Accepts, Part::DoneTo1, Part::Begin4],
+            printed: "b.no dismiss\n",
+            sent: &[
+                Part::AuthAlice,
+                Part::BeginLine,
+                Part::Register,
+                Part::Cancelled2To4,
+            ],
+            asked: &[],
+            ..ONE
+        },
+        Row {
+            shows: "a challenge fails by a rule",
+            rules: "c.* fail\n* user:1000\n",
+            door: &[Part::Accepts, Part::DoneTo1, Part::Begin5],
+            printed: "c.none fail\n",
+            sent: &[
+                Part::AuthAlice,
+                Part::BeginLine,
+                Part::Register,
+                Part::Failed2To5,
+            ],
+            asked: &[],
+            ..ONE
+        },
+        Row {
+            shows: "a challenge fails without a rule",
+            rules: "",
+            door: &[Part::Accepts, Part::DoneTo1, Part::Begin5],
+            printed: "c.none fail\n",
+            sent: &[
+                Part::AuthAlice,
+                Part::BeginLine,
+                Part::Register,
+                Part::Failed2To5,
+            ],
+            asked: &[],
+            ..ONE
+        },
+        Row {
+            shows: "a challenge fails where the helper refuses",
+            helper: &[Part::Accepts, Part::RefusedTo1],
+            printed: "a.self fail\n",
+            sent: &[
+                Part::AuthAlice,
+                Part::BeginLine,
+                Part::Register,
+                Part::Failed2To2,
+            ],
+            ..ONE
+        },
+    ]
+}
+
+/// Runs that are stopped.
+fn stopped() -> &'static [Row] {
+    &[
+        Row {
+            shows: "the registration is refused",
+            door: &[Part::Accepts, Part::RefusedTo1, Part::Begin2],
+            status: AgentStatus::Refused,
+            code: 126,
+            ..UNANSWERED
+        },
+        Row {
+            shows: "a count of 0",
+            count: "0",
+            status: AgentStatus::Usage,
+            ..UNDIALLED
+        },
+        Row {
+            shows: "a count over 1,000,000",
+            count: "1000001",
+            status: AgentStatus::Usage,
+            ..UNDIALLED
+        },
+        Row {
+            shows: "no rule file",
+            rules_at: "/none",
+            status: AgentStatus::RuleFile,
+            ..UNDIALLED
+        },
+        Row {
+            shows: "a rule without a user",
+            rules: "a.* user:\n",
+            status: AgentStatus::RuleFile,
+            ..UNDIALLED
+        },
+        Row {
+            shows: "an empty line",
+            rules: "a.* fail\n\n",
+            status: AgentStatus::RuleFile,
+            ..UNDIALLED
+        },
+        Row {
+            shows: "the tree fails",
+            faults: Faults { tree: 1, ..NONE },
+            status: AgentStatus::TreeFault,
+            ..UNDIALLED
+        },
+        Row {
+            shows: "nobody listens at the door",
+            door_at: "1000:/v",
+            status: AgentStatus::StationFault,
+            ..UNDIALLED
+        },
+        Row {
+            shows: "nobody listens at the helper's door",
+            helper_at: "/v",
+            status: AgentStatus::StationFault,
+            ..UNANSWERED
+        },
+        Row {
+            shows: "a read fails",
+            faults: Faults { read: 1, ..NONE },
+            status: AgentStatus::StationFault,
+            sent: &[Part::AuthAlice],
+            ..UNANSWERED
+        },
+        Row {
+            shows: "the answer cannot be written",
+            faults: Faults { write: 4, ..NONE },
+            status: AgentStatus::StationFault,
+            asked: &[Part::AuthRoot, Part::BeginLine, Part::Respond1],
+            ..UNANSWERED
+        },
+        Row {
+            shows: "the output fails",
+            faults: Faults { output: 1, ..NONE },
+            status: AgentStatus::WriteFault,
+            code: 127,
+            printed: "",
+            ..ONE
+        },
+        Row {
+            shows: "the output fails inside the line",
+            faults: Faults { output: 2, ..NONE },
+            status: AgentStatus::WriteFault,
+            code: 127,
+            printed: "a.self",
+            ..ONE
+        },
+        Row {
+            shows: "the door rejects",
+            door: &[Part::Rejects],
+            status: BAD_SHAKE,
+            sent: &[Part::AuthAlice],
+            ..UNANSWERED
+        },
+        Row {
+            shows: "the helper's door rejects",
+            helper: &[Part::Rejects],
+            status: BAD_SHAKE,
+            asked: &[Part::AuthRoot],
+            ..UNANSWERED
+        },
+        Row {
+            shows: "no message at the door",
+            door: &[Part::Accepts, Part::NoMessage],
+            status: BAD_BYTES,
+            ..UNANSWERED
+        },
+        Row {
+            shows: "no message at the helper's door",
+            helper: &[Part::Accepts, Part::NoMessage],
+            status: BAD_BYTES,
+            asked: &[Part::AuthRoot, Part::BeginLine, Part::Respond1],
+            ..UNANSWERED
+        },
+        Row {
+            shows: "an end before the registration is answered",
+            door: &[Part::Accepts],
+            status: AgentStatus::Cut,
+            ..UNANSWERED
+        },
+        Row {
+            shows: "an end before the challenge",
+            door: &[Part::Accepts, Part::DoneTo1, Part::EndOf1],
+            status: AgentStatus::Cut,
+            ..UNANSWERED
+        },
+        Row {
+            shows: "an end before the helper's reply",
+            helper: &[Part::Accepts],
+            status: AgentStatus::Cut,
+            asked: &[Part::AuthRoot, Part::BeginLine, Part::Respond1],
+            ..UNANSWERED
+        },
+    ]
+}
+
+/// A tree with a rule file.
+fn tree(alloc: Global, rules: &str, fault: u64) -> Result<ListTree, Fail> {
+    let mut files = List::new(alloc);
+    files.try_push(TreeFile {
+        path: Text::try_from_bytes(alloc, b"/rules")?,
+        bytes: ByteList::try_from_slice(alloc, rules.as_bytes())?,
+    })?;
+    Ok(ListTree::new(alloc, files, List::new(alloc), vec![in alloc; fault]?))
+}
+
+/// The words of an agent.
+fn words(alloc: Global, row: &Row) -> Result<TextList, Fail> {
+    texts(
+        alloc,
+        &[
+            "--door",
+            row.door_at,
+            "--helper",
+            row.helper_at,
+            "--session",
+            "s1",
+            "--rules",
+            row.rules_at,
+            "--count",
+            row.count,
+        ],
+    )
+}
+
+/// The run of an agent.
+fn run(alloc: Global, row: &Row) -> Result<(AgentStatus, ByteSink, TwoDoors), Fail> {
+    let words = words(alloc, row)?;
+    let mut station = TwoDoors {
+        door: Some(link(alloc, row.door, 50, row.faults)?),
+        helper: Some(link(alloc, row.helper, 50, NONE)?),
+        first: None,
+        second: None,
+        faults: 0,
+    };
+    let mut tree = tree(alloc, row.rules, row.faults.tree)?;
+    let mut output = output(alloc, row.faults.output)?;
+    let status = script_agent(
+        alloc,
+        words.as_slice(),
+        &mut tree,
+        &mut station,
+        &mut output,
+    );
+    Ok((status, output, station))
+}
+
+/// In what a run differs from its row, if it does.
+fn difference(alloc: Global, row: &Row) -> Result<&'static str, Fail> {
+    let (status, output, station) = run(alloc, row)?;
+    let sent = joined(alloc, row.sent)?;
+    let asked = joined(alloc, row.asked)?;
+    let failed = u64::from(row.status == AgentStatus::StationFault);
+    Ok(if status != row.status {
+        "status"
+    } else if status.code() != row.code {
+        "code"
+    } else if output.bytes() != row.printed.as_bytes() {
+        "printed"
+    } else if written(&station.first) != sent.as_slice() {
+        "sent"
+    } else if written(&station.second) != asked.as_slice() {
+        "asked"
+    } else if station.faults != failed {
+        "faults"
+    } else {
+        ""
+    })
+}
+
+#[test]
+fn challenges_are_met(rt: HostRuntime) -> Result<(), Fail> {
+    for row in met() {
+        assert_eq!(rt; difference(rt.alloc(), row)?, "", "{}", row.shows);
+    }
+    Ok(())
+}
+
+#[test]
+fn agents_stop_with_their_status(rt: HostRuntime) -> Result<(), Fail> {
+    for row in stopped() {
+        assert_eq!(rt; difference(rt.alloc(), row)?, "", "{}", row.shows);
+    }
+    Ok(())
+}

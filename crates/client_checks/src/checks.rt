@@ -1,0 +1,293 @@
+// Checks over a link in memory: what the server gives, and what comes of it.
+use crate::doors::{Faults, NONE, TwoDoors, joined, link, output, texts, written};
+use crate::messages::Part;
+use dbus_values::FaultKind;
+use link_handshake::ShakeFault;
+use pk_outside::ByteSink;
+use pkcheck_tool::{CheckStatus, pkcheck};
+use std::alloc::Global;
+use std::test::Fail;
+
+/// A check.
+#[derive(Clone, Copy)]
+struct Row {
+    shows: &'static str,
+    words: &'static [&'static str],
+    server: &'static [Part],
+    faults: Faults,
+    status: CheckStatus,
+    code: u8,
+    lines: &'static str,
+    sent: &'static [Part],
+}
+
+const WORDS: &[&str] = &[
+    "--door",
+    "1000:/u",
+    "--action-id",
+    "a.yes",
+    "--process",
+    "51,8",
+    "--allow-user-interaction",
+];
+
+/// What a check writes to its link.
+const ASKED: &[Part] = &[Part::AuthAlice, Part::BeginLine, Part::Check];
+
+const BAD_SHAKE: CheckStatus = CheckStatus::BadShake {
+    fault: ShakeFault::BadLine,
+};
+
+const BAD_BYTES: CheckStatus = CheckStatus::BadBytes {
+    kind: FaultKind::Endian,
+    at: 0,
+};
+
+/// A check that is answered by yes.
+const YES: Row = Row {
+    shows: "yes",
+    words: WORDS,
+    server: &[Part::Accepts, Part::Yes],
+    faults: NONE,
+    status: CheckStatus::Yes,
+    code: 0,
+    lines: "polkit.decided-by=default:any\n",
+    sent: ASKED,
+};
+
+/// A check that is given up.
+const STOPPED: Row = Row {
+    code: 127,
+    lines: "",
+    ..YES
+};
+
+/// Checks that have a reply.
+fn replied() -> &'static [Row] {
+    &[
+        YES,
+        Row {
+            shows: "the user may not be asked",
+            words: &[
+                "--door",
+                "1000:/u",
+                "--action-id",
+                "a.yes",
+                "--process",
+                "51,8",
+            ],
+            sent: &[Part::AuthAlice, Part::BeginLine, Part::CheckUnasked],
+            ..YES
+        },
+        Row {
+            shows: "no",
+            server: &[Part::Accepts, Part::No],
+            status: CheckStatus::No,
+            code: 1,
+            lines: "",
+            ..YES
+        },
+        Row {
+            shows: "a challenge",
+            server: &[Part::Accepts, Part::Challenge],
+            status: CheckStatus::Challenge,
+            code: 2,
+            lines: "",
+            ..YES
+        },
+        Row {
+            shows: "yes before a challenge",
+            server: &[Part::Accepts, Part::YesAndChallenge],
+            lines: "",
+            ..YES
+        },
+        Row {
+            shows: "dismissed",
+            server: &[Part::Accepts, Part::Dismissed],
+            status: CheckStatus::Dismissed,
+            code: 3,
+            lines: "polkit.decided-by=dismissed\npolkit.dismissed=true\n",
+            ..YES
+        },
+        Row {
+            shows: "an error",
+            server: &[Part::Accepts, Part::Failed],
+            status: CheckStatus::Error,
+            code: 126,
+            lines: "org.freedesktop.PolicyKit1.Error.Failed\n",
+            ..YES
+        },
+        Row {
+            shows: "the first reply counts, behind a signal and the reply to another call",
+            server: &[
+                Part::Accepts,
+                Part::Signal,
+                Part::Other,
+                Part::Challenge,
+                Part::Yes,
+                Part::NoMessage,
+            ],
+            status: CheckStatus::Challenge,
+            code: 2,
+            lines: "",
+            ..YES
+        },
+    ]
+}
+
+/// Checks that have none, or cannot tell it.
+fn stopped() -> &'static [Row] {
+    &[
+        Row {
+            shows: "words that are not in the grammar",
+            words: &["--door"],
+            status: CheckStatus::Usage,
+            sent: &[],
+            ..STOPPED
+        },
+        Row {
+            shows: "nobody listens at the door",
+            words: &[
+                "--door",
+                "1000:/v",
+                "--action-id",
+                "a.yes",
+                "--process",
+                "51,8",
+            ],
+            status: CheckStatus::StationFault,
+            sent: &[],
+            ..STOPPED
+        },
+        Row {
+            shows: "a server that rejects",
+            server: &[Part::Rejects],
+            status: BAD_SHAKE,
+            sent: &[Part::AuthAlice],
+            ..STOPPED
+        },
+        Row {
+            shows: "an acceptance without a GUID",
+            server: &[Part::OkAlone, Part::Yes],
+            status: BAD_SHAKE,
+            sent: &[Part::AuthAlice],
+            ..STOPPED
+        },
+        Row {
+            shows: "a server that says nothing",
+            server: &[],
+            status: CheckStatus::Cut,
+            sent: &[Part::AuthAlice],
+            ..STOPPED
+        },
+        Row {
+            shows: "an end inside the line",
+            server: &[Part::HalfLine],
+            status: CheckStatus::Cut,
+            sent: &[Part::AuthAlice],
+            ..STOPPED
+        },
+        Row {
+            shows: "an end behind the line",
+            server: &[Part::Accepts],
+            status: CheckStatus::Cut,
+            ..STOPPED
+        },
+        Row {
+            shows: "an end without a reply",
+            server: &[Part::Accepts, Part::Signal, Part::Other],
+            status: CheckStatus::Cut,
+            ..STOPPED
+        },
+        Row {
+            shows: "a byte that begins no message",
+            server: &[Part::Accepts, Part::NoMessage],
+            status: BAD_BYTES,
+            ..STOPPED
+        },
+        Row {
+            shows: "such a byte behind another message",
+            server: &[Part::Accepts, Part::Other, Part::NoMessage],
+            status: BAD_BYTES,
+            ..STOPPED
+        },
+        Row {
+            shows: "the read fails",
+            faults: Faults { read: 1, ..NONE },
+            status: CheckStatus::StationFault,
+            sent: &[Part::AuthAlice],
+            ..STOPPED
+        },
+        Row {
+            shows: "the first write fails",
+            faults: Faults { write: 1, ..NONE },
+            status: CheckStatus::StationFault,
+            sent: &[],
+            ..STOPPED
+        },
+        Row {
+            shows: "the call cannot be written",
+            faults: Faults { write: 3, ..NONE },
+            status: CheckStatus::StationFault,
+            sent: &[Part::AuthAlice, Part::BeginLine],
+            ..STOPPED
+        },
+        Row {
+            shows: "the output fails",
+            faults: Faults { output: 1, ..NONE },
+            status: CheckStatus::WriteFault,
+            ..STOPPED
+        },
+    ]
+}
+
+/// A check, whose link gives a byte in each read.
+fn check(alloc: Global, row: &Row) -> Result<(CheckStatus, ByteSink, TwoDoors), Fail> {
+    let words = texts(alloc, row.words)?;
+    let mut station = TwoDoors {
+        door: Some(link(alloc, row.server, 1, row.faults)?),
+        helper: None,
+        first: None,
+        second: None,
+        faults: 0,
+    };
+    let mut output = output(alloc, row.faults.output)?;
+    let status = pkcheck(alloc, words.as_slice(), &mut station, &mut output);
+    Ok((status, output, station))
+}
+
+/// In what a check differs from its row, if it does.
+fn difference(alloc: Global, row: &Row) -> Result<&'static str, Fail> {
+    let (status, output, station) = check(alloc, row)?;
+    let sent = joined(alloc, row.sent)?;
+    let failed = u64::from(row.status == CheckStatus::StationFault);
+    Ok(if status != row.status {
+        "status"
+    } else if status.code() != row.code {
+        "code"
+    } else if output.bytes() != row.lines.as_bytes() {
+        "lines"
+    } else if written(&station.first) != sent.as_slice() {
+        "sent"
+    } else if station.faults != failed {
+        "faults"
+    } else {
+        ""
+    })
+}
+
+#[test]
+fn replies_have_their_status(rt: HostRuntime) -> Result<(), Fail> {
+    for row in replied() {
+        assert_eq!(rt; difference(rt.alloc(), row)?, "", "{}", row.shows);
+    }
+    Ok(())
+}
+
+#[test]
+fn faults_have_their_status(rt: HostRuntime) -> Result<(), Fail> {
+    for row in stopped() {
+        assert_eq!(rt; difference(rt.alloc(), row)?, "", "{}", row.shows);
+    }
+    Ok(())
+}

@@ -1,0 +1,119 @@
+//! The program `pkcheck`, over the sockets of the system.
+//!
+//! What a check does is proved of `pkcheck_tool::pkcheck`; this program passes the words and standard
+//! output on, and tells how it ended.
+#![tactic(auto)]
+
+use check_words::read_words;
+use pk_outside::{Station, WriteSink};
+use pk_types::Text;
+use pkcheck_tool::{CheckStatus, pkcheck};
+use program_words::{ProgramTexts, WordsRefused, words};
+use rand::make_rng;
+use rand::rngs::StdRng;
+use real_station::SocketStation;
+use std::io;
+use std::process::ExitCode;
+
+/// The exit code where the system gives no random words. No status has it.
+const NO_RANDOM_WORDS: u8 = 71;
+
+/// What the program tells of itself.
+const TEXTS: ProgramTexts = ProgramTexts {
+    help: "usage: pkcheck --door UID:PATH --action-id ID --process PID,START [--allow-user-interaction]
+
+Asks the authority behind a door whether a process may do an action.
+
+  --door UID:PATH           the socket of the door, and the user whom it is for
+  --action-id ID            the action
+  --process PID,START       the process, and its start time
+  --allow-user-interaction  the user may be asked
+
+Options, each alone:
+  --help     shows this text
+  --version  shows the version
+
+Standard output has the details of the reply, each as a line KEY=VALUE, or the name of the error.
+Exit status: 0 authorized, 1 not authorized, 2 not without a challenge, 3 the challenge was
+dismissed, 126 the reply is an error, 127 usage or a fault of the station, the link or the output,
+70 out of memory, 71 the system gives no random words. 70, 71 and 127 are told on standard error.
+",
+    version: "pkcheck 0.105.0\n",
+};
+
+/// Tells on standard error what is wrong with the words.
+fn tell_fault<R: Eprint + AllocGlobal>(rt: &R, words: &[Text]) {
+    let Err(fault) = read_words(rt.alloc(), words) else {
+        return;
+    };
+    if let Ok(fault) = format!(in rt.alloc(); "{fault}") {
+        TEXTS.tell_usage(rt, fault.as_str());
+    }
+}
+
+/// Does what the words ask.
+fn check<R: Print + Eprint + AllocGlobal + Sync, N: Station>(
+    rt: &R,
+    words: &[Text],
+    station: &mut N,
+) -> CheckStatus {
+    if let Some(text) = TEXTS.asked_by(words) {
+        return match print!(rt; "{text}") {
+            Ok(()) => CheckStatus::Yes,
+            Err(_) => CheckStatus::WriteFault,
+        };
+    }
+    let mut output = WriteSink::new(io::writer(rt));
+    let status = pkcheck(rt.alloc(), words, station, &mut output);
+    if status == CheckStatus::Usage {
+        tell_fault(rt, words);
+    }
+    status
+}
+
+/// How the program ends where its words could not be read.
+fn without_words<R: Eprint>(rt: &R, refused: WordsRefused) -> CheckStatus {
+    match refused {
+        WordsRefused::NotText => {
+            TEXTS.tell_usage(rt, "error: a word is not a text");
+            CheckStatus::Usage
+        }
+        WordsRefused::NoMemory => CheckStatus::NoMemory,
+    }
+}
+
+/// Tells a status that is neither that of a reply nor `Usage` by one line on standard error.
+fn tell<R: Eprint>(rt: &R, status: CheckStatus) {
+    match status {
+        CheckStatus::Yes
+        | CheckStatus::No
+        | CheckStatus::Challenge
+        | CheckStatus::Dismissed
+        | CheckStatus::Error
+        | CheckStatus::Usage => {}
+        _ => {
+            let _ = eprintln!(rt; "{status}");
+        }
+    }
+}
+
+/// What the system refused is told by a line behind that of the status.
+fn main(rt: HostRuntime) -> ExitCode {
+    let random: StdRng = match make_rng(&rt) {
+        Ok(random) => random,
+        Err(cause) => {
+            let _ = eprintln!(rt; "no random words: {cause}");
+            return ExitCode::from(NO_RANDOM_WORDS);
+        }
+    };
+    let mut station = SocketStation::new(&rt, rt.alloc(), random);
+    let status = match words(&rt) {
+        Ok(words) => check(&rt, words.as_slice(), &mut station),
+        Err(refused) => without_words(&rt, refused),
+    };
+    tell(&rt, status);
+    if let Some(refusal) = station.refusal() {
+        let _ = eprintln!(rt; "{refusal}");
+    }
+    ExitCode::from(status.code())
+}
