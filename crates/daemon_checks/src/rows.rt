@@ -154,7 +154,7 @@ fn long_lines_are_refused(rt: HostRuntime) -> Result<(), Fail> {
 
 #[test]
 fn other_words_are_refused(rt: HostRuntime) -> Result<(), Fail> {
-    let commands: [&[&str]; 20] = [
+    let commands: [&[&str]; 30] = [
         &[],
         &[""],
         &["Replay"],
@@ -175,6 +175,16 @@ fn other_words_are_refused(rt: HostRuntime) -> Result<(), Fail> {
         &["load", "100001"],
         &["load", "6", "6"],
         &["Load", "6"],
+        &["serve"],
+        &["serve", "--root", "/r"],
+        &["serve", "--root", "/r", "--slots", "1"],
+        &["serve", "--root", "/r", "--door", "0:/u"],
+        &["serve", "--root", "/r/", "--door", "0:/u", "--slots", "1"],
+        &["serve", "--root", "/r", "--door", "0", "--slots", "1"],
+        &["serve", "--root", "/r", "--door", "0:/u", "--slots", "0"],
+        &["serve", "--root", "/r", "--door", "0:/u", "--slots", "65"],
+        &["serve", "--root", "/r", "--slots", "1", "--door", "0:/u"],
+        &["Serve", "--root", "/r", "--door", "0:/u", "--slots", "1"],
     ];
     for words in commands {
         let ended = run(&rt, rt.alloc(), words, CHECKS.as_bytes(), NO_FAULTS)?;
@@ -182,5 +192,13 @@ fn other_words_are_refused(rt: HostRuntime) -> Result<(), Fail> {
         assert_eq!(rt; ended.code, 1);
         assert!(rt; ended.written.is_empty());
     }
+    Ok(())
+}
+
+#[test]
+fn words_of_a_service_are_taken(rt: HostRuntime) -> Result<(), Fail> {
+    let words = ["serve", "--root", "/r", "--door", "0:/u", "--slots", "2"];
+    let ended = run(&rt, rt.alloc(), &words, b"", NO_FAULTS)?;
+    assert!(rt; ended.code != 1);
     Ok(())
 }

@@ -5,16 +5,20 @@
 #![tactic(auto)]
 
 use pk_outside::{ReadSource, Station, Tree, WriteSink};
-use pk_types::{List, Text, TextFault, TextList};
 use polkit_daemon::{Status, polkitd};
+use program_words::{ProgramTexts, WordsRefused, words};
+use std::io;
 use std::process::ExitCode;
 use std::rt::Env;
 use std::sync::Wait;
 use std::thread::Threads;
-use std::{env, io};
 
-const HELP: &str = "usage: polkitd replay [--root DIR] [--entries K]
+/// What the program tells of itself.
+const TEXTS: ProgramTexts = ProgramTexts {
+    help: "usage: polkitd replay [--root DIR] [--entries K]
        polkitd pipe UID --root DIR [--entries K]
+       polkitd serve --root DIR --door UID:PATH {--door UID:PATH} --slots N [--stop-after K]
+                     [--entries K]
        polkitd load N
 
 replay  runs the scenario on standard input, and writes its answers to standard output
@@ -23,6 +27,13 @@ replay  runs the scenario on standard input, and writes its answers to standard 
         --entries K  the journal holds at most K entries, 1 to 1048576
 pipe    serves one connection of the user UID: D-Bus messages on standard input, and the messages
         to the connection on standard output, with what the files below DIR give
+serve   listens at Unix sockets, serves many connections at once, and answers all of them from one
+        journal, with what the files below DIR give; writes to standard output a line for each file
+        that the first load skips, and at the end one for each connection and one for the journal
+        --door UID:PATH  makes a socket at PATH; who connects there is the user UID
+        --slots N        each door serves N connections at once; slots times doors is 1 to 64
+        --stop-after K   each slot ends after K connections, 1 to 1000000
+        --entries K      as for replay
 load N  runs N generated checks, 1 to 100000, and writes what they come to to standard output
 
 Options, each alone:
@@ -30,45 +41,18 @@ Options, each alone:
   --version  shows the version
 
 Exit status: 0 done, 1 usage, 2 the files below DIR cannot be read or are refused, 3 read fault,
-4 write fault, 5 the journal is full, 6 a line or a message that is not in its grammar, 70 out of
-memory, 71 the system gives no random words. Any but 0 is told by one line on standard error.
-";
+4 write fault, 5 the journal is full or all numbers of connections are used up, 6 a line or a
+message that is not in its grammar, 7 a socket could not be made or failed, 70 out of memory, 71 the
+system gives no random words. Any but 0 is told by one line on standard error.
+",
+    version: "polkitd 0.105.0\n",
+};
 
-const VERSION: &str = "polkitd 0.105.0\n";
-
-/// How words that could not be read end the program.
-fn unread(fault: io::Error) -> Status {
-    match fault.kind() {
-        io::ErrorKind::OutOfMemory => Status::NoMemory,
-        _ => Status::Usage,
-    }
-}
-
-/// How a word that is not a text ends the program.
-fn no_text(fault: TextFault) -> Status {
-    match fault {
-        TextFault::TooLong { .. } | TextFault::BadByte { .. } => Status::Usage,
-        TextFault::NoMemory => Status::NoMemory,
-    }
-}
-
-/// The words after the program's name, or how the program ends without them.
-fn words<R: Env + AllocGlobal>(rt: &R) -> Result<TextList, Status> {
-    let alloc = rt.alloc();
-    let mut words = List::new(alloc);
-    for word in env::args(rt).map_err(unread)?.skip(1) {
-        let word = Text::try_from_bytes(alloc, word.as_bytes()).map_err(no_text)?;
-        words.try_push(word).map_err(|_| Status::NoMemory)?;
-    }
-    Ok(words)
-}
-
-/// The text that the only word asks for, if it does.
-fn told_by(words: &[Text]) -> Option<&'static str> {
-    match words {
-        [word] if word.bytes() == b"--help".as_slice() => Some(HELP),
-        [word] if word.bytes() == b"--version".as_slice() => Some(VERSION),
-        _ => None,
+/// How the program ends where its words could not be read.
+fn without_words(refused: WordsRefused) -> Status {
+    match refused {
+        WordsRefused::NotText => Status::Usage,
+        WordsRefused::NoMemory => Status::NoMemory,
     }
 }
 
@@ -82,9 +66,9 @@ where
 {
     let words = match words(rt) {
         Ok(words) => words,
-        Err(status) => return status,
+        Err(refused) => return without_words(refused),
     };
-    if let Some(text) = told_by(words.as_slice()) {
+    if let Some(text) = TEXTS.asked_by(words.as_slice()) {
         return match print!(rt; "{text}") {
             Ok(()) => Status::Done,
             Err(_) => Status::WriteFault,

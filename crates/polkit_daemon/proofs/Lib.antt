@@ -4,6 +4,7 @@ pub mod Faults
 pub mod Grows
 pub mod Loading
 pub mod Runs
+pub mod Services
 pub mod Texts
 pub mod Leading
 pub mod FirstLoads

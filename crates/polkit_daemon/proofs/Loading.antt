@@ -46,3 +46,11 @@ plan_of told _ = plan told 0 [] 0
 -- a command has one plan of a pipe
 pub same_plan : (told : Option TreeTold) (named : Option Named) (u v : ℕ) (r s : List ℕ) (a b : ℕ) → named ≡ Some (Named.Pipe u r a) → named ≡ Some (Named.Pipe v s b) → plan told u r a ≡ plan told v s b
 same_plan told named u v r s a b is_a is_b = ap (plan_of told) (sym is_a ∙ is_b)
+
+abbrev words_of : Option Named → List (List ℕ)
+words_of (Some (Named.Serve words)) = words
+words_of _ = []
+
+-- a command has one list of words that name a plan
+pub same_words : (named : Option Named) (a b : List (List ℕ)) → named ≡ Some (Named.Serve a) → named ≡ Some (Named.Serve b) → a ≡ b
+same_words named a b is_a is_b = ap words_of (sym is_a ∙ is_b)

@@ -1,44 +1,28 @@
 -- The words of the daemon.
-use Rattle.std.specs.Prelude.{◌≤◌, ◌==◌, ◌&&◌, Bool, not, List, [], ◌∷◌, length, Option, Some, None, codes, if◌then◌else◌, nat_eq, nat_le, option_and_then, option_map, ℕ}
-use Rattle.std.specs.List.{ends_with}
+use Rattle.std.specs.Prelude.{◌≡◌, ◌≤◌, is_some, true, List, [], ◌∷◌, Option, Some, None, codes, if◌then◌else◌, option_and_then, option_map, ℕ}
 use Rattle.std.specs.Option.{option_copied}
 use Rattle.std.specs.Str.{bytes_eq}
 use Rattle.pk_types.specs.Decimals.{decimal_up_to}
 use Rattle.authority_model.specs.declared.journal.Limits.{Limits}
 use Rattle.authority_model.specs.declared.journal.TheConstants.{MAX_BYTES, MAX_ENTRIES}
+use Rattle.serve_words.specs.Plans.{entries_in, is_root, plan_in, positive_up_to}
 use Rattle.polkit_daemon.specs.declared.command.Command.{Command}
 use Rattle.polkit_daemon.specs.declared.command.Command.TheVariants as command
 use Rattle.polkit_daemon.specs.declared.command.TheConstants.{MAX_CHECKS, MAX_UID}
 
--- A command: a replay with its root and its limit of entries, a pipe with the user of its connection, its root and its limit of entries, or a generated run of so many checks.
+-- A command: a replay with its root and its limit of entries, a pipe with the user of its connection, its root and its limit of entries, a service by the words that name its plan, or a generated run of so many checks.
 pub data Named : Type 0 where
   Replay : Option (List ℕ) → ℕ → Named
   Pipe : ℕ → List ℕ → ℕ → Named
+  Serve : List (List ℕ) → Named
   Load : ℕ → Named
 
 -- the command that the code tells
 abbrev pub command_seen : Command → Named
 command_seen (command.Replay root entries) = Named.Replay (option_copied root) entries
 command_seen (command.Pipe uid root entries) = Named.Pipe uid root.now entries
+command_seen (command.Serve words) = Named.Serve words.now
 command_seen (command.Load checks) = Named.Load checks
-
--- a number above 0
-abbrev pub positive : ℕ → Option ℕ
-positive n = if nat_le 1 n then Some n else None
-
--- a number from 1 to the greatest one
-abbrev pub positive_up_to : ℕ → List ℕ → Option ℕ
-positive_up_to greatest word = option_and_then positive (decimal_up_to greatest word)
-
--- the limit of entries that the options say, or the greatest one
-abbrev pub entries_in : List (List ℕ) → Option ℕ
-entries_in [] = Some MAX_ENTRIES
-entries_in (option ∷ number ∷ []) = if bytes_eq option (codes "--entries") then positive_up_to MAX_ENTRIES number else None
-entries_in other = None
-
--- whether a path may be a root: it is not empty and does not end in `/`
-abbrev pub is_root : List ℕ → Bool
-is_root path = not (length path == 0) && not (ends_with nat_eq path (codes "/"))
 
 -- the replay from this root, with a limit of entries
 abbrev pub rooted : List ℕ → Option ℕ → Option Named
@@ -63,18 +47,29 @@ abbrev pub load_in : List (List ℕ) → Option Named
 load_in (number ∷ []) = option_map Named.Load (positive_up_to MAX_CHECKS number)
 load_in other = None
 
+-- the service that the words after `serve` name
+abbrev pub serve_in : List (List ℕ) → Option Named
+serve_in words = if is_some (plan_in words) then Some (Named.Serve words) else None
+
 -- the command that the words name, where they are in the grammar
 abbrev pub command_of : List (List ℕ) → Option Named
 command_of [] = None
 command_of (word ∷ words) =
     if bytes_eq word (codes "replay") then replay_in words else
     (if bytes_eq word (codes "pipe") then pipe_in words else
-    (if bytes_eq word (codes "load") then load_in words else None))
+    (if bytes_eq word (codes "load") then load_in words else
+    (if bytes_eq word (codes "serve") then serve_in words else None)))
 
--- the numbers of a command are in their ranges
+-- the words name no service
+abbrev pub IsNoService : Option Named → Type 0
+IsNoService (Some (Named.Serve words)) = ⊥
+IsNoService other = Unit {0}
+
+-- the numbers of a command are in their ranges, and the words of a service name a plan
 abbrev pub IsInRange : Command → Type 0
 IsInRange (command.Replay root entries) = (1 ≤ entries) × (entries ≤ MAX_ENTRIES)
 IsInRange (command.Pipe uid root entries) = (1 ≤ entries) × (entries ≤ MAX_ENTRIES)
+IsInRange (command.Serve words) = is_some (plan_in words.now) ≡ true
 IsInRange (command.Load checks) = (1 ≤ checks) × (checks ≤ MAX_CHECKS)
 
 -- the limits of a journal of so many entries

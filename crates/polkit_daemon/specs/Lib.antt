@@ -8,3 +8,4 @@ pub mod Piped
 pub mod Playing
 pub mod Replay
 pub mod Rooted
+pub mod Served

@@ -1,10 +1,10 @@
 // The command line of the daemon.
 ghost use Rattle.std.specs.Prelude.{◌≡◌, ◌≤◌, IfSome};
 ghost use Rattle.std.specs.Option.{option_copied, option_map};
-ghost use Rattle.polkit_daemon.specs.Commands.{command_of, command_seen, entries_in, is_root, load_in, pipe_in, positive_up_to, replay_in, IsInRange};
+ghost use Rattle.polkit_daemon.specs.Commands.{command_of, command_seen, load_in, pipe_in, replay_in, serve_in, IsInRange};
 
-use authority_model::MAX_ENTRIES;
 use pk_types::{Text, number_up_to};
+use serve_words::{entries_in, is_plan, is_root, positive};
 
 /// The greatest number of checks of a generated run.
 const MAX_CHECKS: u64 = 100_000;
@@ -29,47 +29,22 @@ pub enum Command<'a> {
         root: &'a Text,
         entries: u64,
     },
+    /// `serve --root DIR --door UID:PATH {--door UID:PATH} --slots N [--stop-after K] [--entries K]`:
+    /// serves the connections that come in at the doors, from what the tree below the root gives. The
+    /// words behind `serve` name a plan.
+    Serve {
+        words: &'a [Text],
+    },
     /// `load N`: runs so many generated checks, from 1 to 100,000, and writes what they come to.
     Load {
         checks: u32,
     },
 }
 
-/// A number from 1 to the greatest one.
-fn positive(word: &[u8], greatest: u64) -> Option<u64>
-    ensures number { result ≡ positive_up_to greatest word.now }
-{
-    let number = number_up_to(word, greatest)?;
-    if number < 1 {
-        return None;
-    }
-    Some(number)
-}
-
-/// The limit of entries that the options say, or the greatest one.
-fn entries_in(words: &[Text]) -> Option<u64>
-    ensures entries { result ≡ entries_in words.now }
-{
-    match words {
-        [] => Some(MAX_ENTRIES),
-        [option, number] if option.bytes() == b"--entries".as_slice() => {
-            positive(number.bytes(), MAX_ENTRIES)
-        }
-        _ => None,
-    }
-}
-
-/// Whether a path may be a root: it is not empty and does not end in `/`.
-fn is_root(path: &Text) -> bool
-    ensures root { result ≡ is_root path.now }
-{
-    let path = path.bytes();
-    !path.is_empty() && !path.ends_with(b"/")
-}
-
 /// The replay that the words after `replay` name.
 fn replay_in(words: &[Text]) -> Option<Command<'_>>
     ensures command { option_map command_seen result ≡ replay_in words.now }
+    ensures range { IfSome result IsInRange }
 {
     match words {
         [option, root, rest @ ..] if option.bytes() == b"--root".as_slice() => {
@@ -117,6 +92,7 @@ fn pipe_in(words: &[Text]) -> Option<Command<'_>>
 /// The generated run that the words after `load` name.
 fn load_in(words: &[Text]) -> Option<Command<'_>>
     ensures command { option_map command_seen result ≡ load_in words.now }
+    ensures range { IfSome result IsInRange }
 {
     match words {
         [number] => {
@@ -126,6 +102,18 @@ fn load_in(words: &[Text]) -> Option<Command<'_>>
             })
         }
         _ => None,
+    }
+}
+
+/// The service that the words after `serve` name.
+fn serve_in(words: &[Text]) -> Option<Command<'_>>
+    ensures command { option_map command_seen result ≡ serve_in words.now }
+    ensures range { IfSome result IsInRange }
+{
+    if is_plan(words) {
+        Some(Command::Serve { words })
+    } else {
+        None
     }
 }
 
@@ -144,6 +132,9 @@ impl Command<'_> {
         }
         if word.bytes() == b"load".as_slice() {
             return load_in(rest);
+        }
+        if word.bytes() == b"serve".as_slice() {
+            return serve_in(rest);
         }
         None
     }

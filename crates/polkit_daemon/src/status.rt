@@ -1,7 +1,9 @@
 // How a command of the daemon ended.
 ghost use Rattle.std.specs.Prelude.{◌≡◌};
 ghost use Rattle.polkit_daemon.specs.Codes.{code_of};
+ghost use Rattle.polkit_daemon.specs.Served.{status_of};
 
+use authority_service::ServiceEnd;
 use dbus_values::FaultKind;
 use policy_load::LoadRefused;
 use scenario_text::LineKind;
@@ -40,6 +42,22 @@ pub enum Status {
 }
 
 impl Status {
+    /// The status of a service that ended so.
+    pub(crate) fn of_service(end: ServiceEnd) -> Status
+        ensures status { result ≡ status_of end }
+    {
+        match end {
+            ServiceEnd::Done => Status::Done,
+            ServiceEnd::TreeFault { count } => Status::TreeFault { count },
+            ServiceEnd::LoadRefused { refused } => Status::LoadRefused { refused },
+            ServiceEnd::WriteFault => Status::WriteFault,
+            ServiceEnd::JournalFull { entries, bytes } => Status::JournalFull { entries, bytes },
+            ServiceEnd::Admissions { admitted } => Status::Admissions { admitted },
+            ServiceEnd::DoorFault => Status::DoorFault,
+            ServiceEnd::NoMemory => Status::NoMemory,
+        }
+    }
+
     /// The exit code of the program.
     pub fn code(&self) -> u8
         ensures code { result ≡ code_of self.now }

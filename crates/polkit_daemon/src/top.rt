@@ -1,15 +1,20 @@
 // The top call: the command that the words name.
 ghost use Rattle.std.specs.Prelude.{◌≡◌, ◌↔◌, None, Some, Option, List, ℕ};
-ghost use Rattle.polkit_daemon.specs.Commands.{Named, command_of, limits_of};
+ghost use Rattle.polkit_daemon.specs.Commands.{IsNoService, Named, command_of, limits_of};
 ghost use Rattle.polkit_daemon.specs.Faults.{InputFaults, OutputFaults};
 ghost use Rattle.polkit_daemon.specs.Generate.{Generates};
 ghost use Rattle.polkit_daemon.specs.Piped.{PipesMade};
 ghost use Rattle.polkit_daemon.specs.Rooted.{ReplaysFrom};
+ghost use Rattle.authority_service.specs.Service.{outside};
+ghost use Rattle.polkit_daemon.specs.Served.{IsServedOrUntouched};
+ghost use Rattle.serve_words.specs.declared.plan.ServePlan.{ServePlan};
+ghost use Rattle.serve_words.specs.Plans.{plan_in};
 
 use crate::command::Command;
 use crate::generating::load_run;
 use crate::piping::pipe;
 use crate::rooted::replay;
+use crate::serving::serve_named;
 use crate::status::Status;
 use authority_model::{Limits, MAX_BYTES};
 use pk_outside::{Sink, Source, Station, Tree};
@@ -34,7 +39,7 @@ fn limits_of(entries: u64) -> Limits
 /// `Usage` exactly where the words are not in the grammar, and then nothing was read or written;
 /// otherwise the status of the command.
 pub fn polkitd<R: Threads + Wait + Sync, T: Tree, N: Station, I: Source, O: Sink>(
-    _rt: &R,
+    rt: &R,
     alloc: Global,
     words: &[Text],
     tree: &mut T,
@@ -57,14 +62,22 @@ pub fn polkitd<R: Threads + Wait + Sync, T: Tree, N: Station, I: Source, O: Sink
         PipesMade (record { uid = uid; root = root; told = T.told tree.old; limits = limits_of entries }) (T.faults tree.old) (T.faults tree.new)
         (N.told station.old) (I.left input.old) (I.left input.new) (I.ended input.new) (O.held output.old) (O.held output.new) result }
 
+    // The words behind `serve` name a plan, which is served; where memory is refused before that,
+    // nothing was touched. A service reads nothing of the input.
+    ensures serve { (named : List (List ℕ)) (plan : ServePlan) → command_of words.now ≡ Some (Named.Serve named) → plan_in named ≡ Some plan →
+        IsServedOrUntouched plan (outside (T.told tree.old) (T.faults tree.old) (T.faults tree.new) (N.told station.old) (N.told station.new)
+        (N.faults station.old) (N.faults station.new) (O.held output.old) (O.held output.new) (O.faults output.old) (O.faults output.new)) result }
+    ensures serve_unread { (named : List (List ℕ)) → command_of words.now ≡ Some (Named.Serve named) → I.left input.new ≡ I.left input.old }
+
     // A generated run writes its one line, as far as the status says, and reads nothing.
     ensures load { (checks : ℕ) → command_of words.now ≡ Some (Named.Load checks) →
         Generates checks (O.held output.old) (O.held output.new) result }
     ensures load_unread { (checks : ℕ) → command_of words.now ≡ Some (Named.Load checks) → I.left input.new ≡ I.left input.old }
 
-    // A fault of the outside is told exactly where the object counted it, by its last call.
+    // A fault of the outside is told exactly where the object counted it, by its last call. A service
+    // tells that of the output only where no other cause comes first.
     ensures read { InputFaults I.left I.faults input.old input.new result }
-    ensures write { OutputFaults O.held O.faults output.old output.new result }
+    ensures write { IsNoService (command_of words.now) → OutputFaults O.held O.faults output.old output.new result }
 {
     match Command::read(words) {
         Some(Command::Replay { root, entries }) => {
@@ -77,6 +90,9 @@ pub fn polkitd<R: Threads + Wait + Sync, T: Tree, N: Station, I: Source, O: Sink
             pipe(
                 alloc, uid, root, limits, tree, &mut clock, &mut salt, input, output,
             )
+        }
+        Some(Command::Serve { words: named }) => {
+            serve_named(rt, alloc, named, tree, station, output)
         }
         Some(Command::Load { checks }) => load_run(alloc, checks, output),
         None => Status::Usage,

@@ -9,7 +9,9 @@ use Rattle.pipe_run.specs.Supplies.{supply}
 use Rattle.polkit_daemon.specs.Piped.{PipesFrom, PipesMade, Plan}
 use Rattle.polkit_daemon.specs.Rooted.{ReplaysFrom}
 use Rattle.polkit_daemon.proofs.Faults.{generates_reads}
-use Rattle.polkit_daemon.proofs.Loading.{same_checks, same_entries, same_plan, same_root}
+use Rattle.polkit_daemon.proofs.Loading.{same_checks, same_entries, same_plan, same_root, same_words}
+use Rattle.polkit_daemon.proofs.Services.{service_reads}
+use Rattle.serve_words.specs.Plans.{plan_in}
 use Rattle.polkit_daemon.proofs.top.polkitd.Goals as goal
 
 pub returns-in-Some-Replay-clause-replay : goal.returns-in-Some-Replay-clause-replay
@@ -50,3 +52,11 @@ returns-in-Some-Pipe-clause-pipe g c = λ uid root entries is.
       makes_salt = c.salt-salt.ensures.salt;
       run = subst (λ (l : Limits). PipesFrom (record { uid = c.in-Some-Pipe.uid; root = c.in-Some-Pipe.root.now; told = g.T.Tree.told c.args.tree.now; limits = l }) (g.T.Tree.faults c.args.tree.now) (g.T.Tree.faults c.pipe.new.tree) (traffic (g.I.Source.left c.args.input.now) (g.I.Source.left c.pipe.new.input) (g.I.Source.ended c.pipe.new.input) (g.O.Sink.held c.args.output.now) (g.O.Sink.held c.pipe.new.output) (supply (g.N.Clock.Clock.left c.clock-clock.result) (g.N.Clock.Clock.gave c.clock-clock.result)) (supply (g.N.Clock.Clock.left c.pipe.new.clock) (g.N.Clock.Clock.gave c.pipe.new.clock)) (supply (g.N.Salt.Salt.left c.salt-salt.result) (g.N.Salt.Salt.gave c.salt-salt.result)) (supply (g.N.Salt.Salt.left c.pipe.new.salt) (g.N.Salt.Salt.gave c.pipe.new.salt))) c.pipe.result) c.limits_of-limits.ensures.limits c.pipe.ensures.run;
     })
+
+pub returns-in-Some-Serve-clause-serve : goal.returns-in-Some-Serve-clause-serve
+returns-in-Some-Serve-clause-serve g c = λ named plan is planned.
+    let read_is = ap (option_map command_seen) (c.in-Some-Serve.is ∙ ap Some c.in-Some-Serve.field-0-is) in
+    c.serve_named.ensures.run plan (ap plan_in (same_words _ c.in-Some-Serve.named.now named read_is (c.read.ensures.command ∙ is)) ∙ planned)
+
+pub returns-in-Some-Serve-clause-read : goal.returns-in-Some-Serve-clause-read
+returns-in-Some-Serve-clause-read g c = service_reads g.I.Source.left g.I.Source.faults c.args.input.now c.serve_named.result c.serve_named.ensures.status
