@@ -1,0 +1,13 @@
+//! Connections, the loader and slots over one authority, tested at objects in memory.
+#![tactic(auto)]
+
+#[cfg(test)]
+mod closed_doors;
+#[cfg(test)]
+mod connections;
+#[cfg(test)]
+mod loaders;
+#[cfg(test)]
+mod passes;
+#[cfg(test)]
+mod wire;
