@@ -26,31 +26,31 @@ unfoldable pub localized : List ℕ → List ℕ → List Pair → List ℕ → 
 localized name place texts rest = do
   t ← tag false rest
   if has_key (lang_of t.attributes) texts then fault_at kind.Repeated place else (do
-    x ← text name place t
-    Ok (set_key (lang_of t.attributes) x.0 texts, x.1))
+    (text, behind) ← text name place t
+    Ok (set_key (lang_of t.attributes) text texts, behind))
 
 -- an annotation: the last value of a key counts
 unfoldable pub annotation : List ℕ → List Pair → List ℕ → Result (List Pair × List ℕ) Fault
 annotation place pairs rest = do
   t ← tag false rest
   key ← needed place (value_of (codes "key") t.attributes)
-  x ← text (codes "annotate") place t
-  Ok (set_key key x.0 pairs, x.1)
+  (value, behind) ← text (codes "annotate") place t
+  Ok (set_key key value pairs, behind)
 
 -- the elements of an action
 abbrev pub InAction : Type 0
 InAction = ActionDraft × List ℕ
 
 abbrev pub origin_child : ActionDraft → Result (Origin × List ℕ) Fault → Result (Step InAction InAction) Fault
-origin_child a read = read >>= λ x. Ok (On (record a { origin = x.0 }, x.1))
+origin_child a read = read >>= λ (origin, behind). Ok (On (record a { origin = origin }, behind))
 
 abbrev pub action_child : ActionDraft → List ℕ → List ℕ → List ℕ → Option OriginPart → Result (Step InAction InAction) Fault
 action_child a name place rest (Some which) = origin_child a (origin_element which name place a.origin rest)
 action_child a name place rest None =
-    if bytes_eq name (codes "description") then (localized name place a.descriptions rest >>= λ x. Ok (On (record a { descriptions = x.0 }, x.1)))
-    else (if bytes_eq name (codes "message") then (localized name place a.messages rest >>= λ x. Ok (On (record a { messages = x.0 }, x.1)))
-    else (if bytes_eq name (codes "defaults") then (defaults_element place a.defaults rest >>= λ x. Ok (On (record a { defaults = Some x.0 }, x.1)))
-    else (if bytes_eq name (codes "annotate") then (annotation place a.annotations rest >>= λ x. Ok (On (record a { annotations = x.0 }, x.1)))
+    if bytes_eq name (codes "description") then (localized name place a.descriptions rest >>= λ (descriptions, behind). Ok (On (record a { descriptions = descriptions }, behind)))
+    else (if bytes_eq name (codes "message") then (localized name place a.messages rest >>= λ (messages, behind). Ok (On (record a { messages = messages }, behind)))
+    else (if bytes_eq name (codes "defaults") then (defaults_element place a.defaults rest >>= λ (defaults, behind). Ok (On (record a { defaults = Some defaults }, behind)))
+    else (if bytes_eq name (codes "annotate") then (annotation place a.annotations rest >>= λ (annotations, behind). Ok (On (record a { annotations = annotations }, behind)))
     else fault_at kind.Element place)))
 
 abbrev pub in_action : ActionDraft → Next → Result (Step InAction InAction) Fault
@@ -58,7 +58,7 @@ in_action a (End rest) = Ok (Done (a, rest))
 in_action a (Child name place rest) = action_child a name place rest (origin_part name)
 
 unfoldable pub action_step : InAction → Result (Step InAction InAction) Fault
-action_step s = next (codes "action") s.1 >>= in_action s.0
+action_step (action, rest) = next (codes "action") rest >>= in_action action
 
 abbrev pub new_action : List ℕ → ActionDraft
 new_action id = record { id = id; descriptions = []; messages = []; origin = no_origin; defaults = None; annotations = [] }

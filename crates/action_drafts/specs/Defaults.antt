@@ -55,9 +55,9 @@ unfoldable pub default_element : Category → List ℕ → List ℕ → Defaults
 default_element which name place d rest =
     if is_some (default_of which d) then fault_at kind.Repeated place else (do
       t ← tag false rest
-      x ← text name place t
-      v ← word_of place (implicit_of_word (trim x.0))
-      Ok (with_default which v d, x.1))
+      (text, behind) ← text name place t
+      v ← word_of place (implicit_of_word (trim text))
+      Ok (with_default which v d, behind))
 
 abbrev pub default_child : Defaults → List ℕ → List ℕ → List ℕ → Option Category → Result (Step (Defaults × List ℕ) (Defaults × List ℕ)) Fault
 default_child d name place rest None = fault_at kind.Element place
@@ -68,7 +68,7 @@ in_defaults d (End rest) = Ok (Done (d, rest))
 in_defaults d (Child name place rest) = default_child d name place rest (default_part name)
 
 unfoldable pub defaults_step : Defaults × List ℕ → Result (Step (Defaults × List ℕ) (Defaults × List ℕ)) Fault
-defaults_step s = next (codes "defaults") s.1 >>= in_defaults s.0
+defaults_step (defaults, rest) = next (codes "defaults") rest >>= in_defaults defaults
 
 abbrev pub no_defaults : Defaults
 no_defaults = record { any = None; inactive = None; active = None }

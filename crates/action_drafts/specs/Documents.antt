@@ -17,9 +17,9 @@ abbrev pub InFile : Type 0
 InFile = FileDraft × List ℕ
 
 abbrev pub file_child : FileDraft → List ℕ → List ℕ → List ℕ → Option OriginPart → Result (Step InFile InFile) Fault
-file_child f name place rest (Some which) = origin_element which name place f.origin rest >>= λ x. Ok (On (record f { origin = x.0 }, x.1))
+file_child f name place rest (Some which) = origin_element which name place f.origin rest >>= λ (origin, behind). Ok (On (record f { origin = origin }, behind))
 file_child f name place rest None =
-    if bytes_eq name (codes "action") then (action place rest >>= λ x. Ok (On (record f { actions = f.actions ++ x.0 ∷ [] }, x.1)))
+    if bytes_eq name (codes "action") then (action place rest >>= λ (draft, behind). Ok (On (record f { actions = f.actions ++ draft ∷ [] }, behind)))
     else fault_at kind.Element place
 
 abbrev pub in_file : FileDraft → Next → Result (Step InFile InFile) Fault
@@ -27,7 +27,7 @@ in_file f (End rest) = Ok (Done (f, rest))
 in_file f (Child name place rest) = file_child f name place rest (origin_part name)
 
 unfoldable pub file_step : InFile → Result (Step InFile InFile) Fault
-file_step s = next (codes "policyconfig") s.1 >>= in_file s.0
+file_step (file, rest) = next (codes "policyconfig") rest >>= in_file file
 
 abbrev pub no_actions : FileDraft
 no_actions = record { origin = no_origin; actions = [] }
@@ -41,8 +41,8 @@ in_root t = if t.is_empty then Ok (no_actions, t.rest) else file_elements t.rest
 -- the root element, from its `<`
 unfoldable pub root : List ℕ → Result InFile Fault
 root here = do
-  n ← name here (drop 1 here)
-  if bytes_eq n.0 (codes "policyconfig") then (tag false n.1 >>= in_root) else fault_at kind.Element here
+  (found, rest) ← name here (drop 1 here)
+  if bytes_eq found (codes "policyconfig") then (tag false rest >>= in_root) else fault_at kind.Element here
 
 -- a tag behind the root
 abbrev pub behind_root : List ℕ → Result (Unit {0}) Fault
@@ -57,6 +57,6 @@ unfoldable pub document : List ℕ → Result FileDraft Fault
 document bytes = do
   behind ← xml_declaration bytes
   here ← prolog true behind
-  x ← root here
-  end ← epilog x.1
-  Ok x.0
+  (file, rest) ← root here
+  end ← epilog rest
+  Ok file

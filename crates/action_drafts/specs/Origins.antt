@@ -34,5 +34,5 @@ unfoldable pub origin_element : OriginPart → List ℕ → List ℕ → Origin 
 origin_element which name place o rest =
     if is_some (origin_of which o) then fault_at kind.Repeated place else (do
       t ← tag false rest
-      x ← text name place t
-      Ok (with_origin which x.0 o, x.1))
+      (text, behind) ← text name place t
+      Ok (with_origin which text o, behind))

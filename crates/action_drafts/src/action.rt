@@ -150,7 +150,7 @@ fn action_elements<'a>(
     draft: OpenAction,
     bytes: &'a [u8],
 ) -> Result<(OpenAction, &'a [u8]), Stop>
-    ensures exact { Gives (λ x. (x.0, x.1.now)) result (action_elements draft bytes.now) }
+    ensures exact { Gives (λ (action, rest). (action, rest.now)) result (action_elements draft bytes.now) }
 {
     let mut action = draft;
     let mut rest = bytes;
@@ -169,7 +169,7 @@ fn in_tag<'a>(
     place: &[u8],
     tag: &StartTag<'a>,
 ) -> Result<(ActionDraft, &'a [u8]), Stop>
-    ensures exact { Gives (λ x. (x.0, x.1.now)) result (in_tag place.now (tag_of tag.now)) }
+    ensures exact { Gives (λ (action, rest). (action, rest.now)) result (in_tag place.now (tag_of tag.now)) }
 {
     let value = needed(place, tag.value(b"id"))?;
     let id = action_id(place, &value)?;
@@ -184,7 +184,7 @@ fn in_tag<'a>(
 /// An action behind its name.
 #[tactic(auto, unfolding(crate::specs::Actions::action))]
 pub fn action<'a>(alloc: Global, element: Element<'a>) -> Result<(ActionDraft, &'a [u8]), Stop>
-    ensures exact { Gives (λ x. (x.0, x.1.now)) result (action element.entry.place.now element.entry.rest.now) }
+    ensures exact { Gives (λ (action, rest). (action, rest.now)) result (action element.entry.place.now element.entry.rest.now) }
 {
     let tag = start_tag(alloc, true, element.rest)?;
     in_tag(alloc, element.place, &tag)

@@ -112,7 +112,7 @@ fn default_element<'a>(
     element: Element<'a>,
     defaults: Defaults,
 ) -> Result<(Defaults, &'a [u8]), Stop>
-    ensures exact { Gives (λ x. (x.0, x.1.now)) result (default_element which element.entry.name.now element.entry.place.now defaults element.entry.rest.now) }
+    ensures exact { Gives (λ (defaults, rest). (defaults, rest.now)) result (default_element which element.entry.name.now element.entry.place.now defaults element.entry.rest.now) }
 {
     if defaults.has(which) {
         return Err(fault_at(XmlFaultKind::Repeated, element.place));
@@ -147,7 +147,7 @@ fn defaults_step<'a>(
 
 #[tactic(auto, using(xml_pieces::proofs::Loops::steps_rules), unfolding(crate::specs::Defaults::default_elements))]
 fn default_elements<'a>(alloc: Global, bytes: &'a [u8]) -> Result<(Defaults, &'a [u8]), Stop>
-    ensures exact { Gives (λ x. (x.0, x.1.now)) result (default_elements bytes.now) }
+    ensures exact { Gives (λ (defaults, rest). (defaults, rest.now)) result (default_elements bytes.now) }
 {
     let mut defaults = Defaults::none();
     let mut rest = bytes;
@@ -163,7 +163,7 @@ fn default_elements<'a>(alloc: Global, bytes: &'a [u8]) -> Result<(Defaults, &'a
 /// The defaults of an action, behind the start tag.
 #[tactic(auto, unfolding(crate::specs::Defaults::defaults))]
 fn inside<'a>(alloc: Global, tag: &StartTag<'a>) -> Result<(Defaults, &'a [u8]), Stop>
-    ensures exact { Gives (λ x. (x.0, x.1.now)) result (defaults (tag_of tag.now)) }
+    ensures exact { Gives (λ (defaults, rest). (defaults, rest.now)) result (defaults (tag_of tag.now)) }
 {
     if tag.is_empty {
         return Ok((Defaults::none(), tag.rest));
@@ -178,7 +178,7 @@ pub fn defaults_element<'a>(
     element: Element<'a>,
     old: &Option<Defaults>,
 ) -> Result<(Defaults, &'a [u8]), Stop>
-    ensures exact { Gives (λ x. (x.0, x.1.now)) result (defaults_element element.entry.place.now old.now element.entry.rest.now) }
+    ensures exact { Gives (λ (defaults, rest). (defaults, rest.now)) result (defaults_element element.entry.place.now old.now element.entry.rest.now) }
 {
     if old.is_some() {
         return Err(fault_at(XmlFaultKind::Repeated, element.place));

@@ -57,7 +57,7 @@ fn no_actions(alloc: Global) -> FileDraft
 
 #[tactic(auto, using(xml_pieces::proofs::Loops::steps_rules), unfolding(crate::specs::Documents::file_elements))]
 fn file_elements<'a>(alloc: Global, bytes: &'a [u8]) -> Result<(FileDraft, &'a [u8]), Stop>
-    ensures exact { Gives (λ x. (x.0, x.1.now)) result (file_elements bytes.now) }
+    ensures exact { Gives (λ (file, rest). (file, rest.now)) result (file_elements bytes.now) }
 {
     let mut file = no_actions(alloc);
     let mut rest = bytes;
@@ -73,7 +73,7 @@ fn file_elements<'a>(alloc: Global, bytes: &'a [u8]) -> Result<(FileDraft, &'a [
 /// The elements of the root, behind its start tag.
 #[tactic(auto, unfolding(crate::specs::Documents::in_root))]
 fn in_root<'a>(alloc: Global, tag: &StartTag<'a>) -> Result<(FileDraft, &'a [u8]), Stop>
-    ensures exact { Gives (λ x. (x.0, x.1.now)) result (in_root (tag_of tag.now)) }
+    ensures exact { Gives (λ (file, rest). (file, rest.now)) result (in_root (tag_of tag.now)) }
 {
     if tag.is_empty {
         return Ok((no_actions(alloc), tag.rest));
@@ -84,7 +84,7 @@ fn in_root<'a>(alloc: Global, tag: &StartTag<'a>) -> Result<(FileDraft, &'a [u8]
 /// The root element, from its `<`.
 #[tactic(auto, unfolding(crate::specs::Documents::root))]
 fn root<'a>(alloc: Global, here: &'a [u8]) -> Result<(FileDraft, &'a [u8]), Stop>
-    ensures exact { Gives (λ x. (x.0, x.1.now)) result (root here.now) }
+    ensures exact { Gives (λ (file, rest). (file, rest.now)) result (root here.now) }
 {
     let (found, rest) = name(here, behind(1, here))?;
     if found != b"policyconfig".as_slice() {

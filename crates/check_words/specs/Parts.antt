@@ -12,7 +12,7 @@ Some a >>= next = next a
 -- a byte at the front of the first part
 abbrev pub onto_first : ℕ → Option (List ℕ × List ℕ) → Option (List ℕ × List ℕ)
 onto_first b None = None
-onto_first b (Some parts) = Some (b ∷ parts.0, parts.1)
+onto_first b (Some (before, behind)) = Some (b ∷ before, behind)
 
 -- what stands before the first separator, and what stands behind it
 abbrev pub cut_at : ℕ → List ℕ → Option (List ℕ × List ℕ)
@@ -26,15 +26,15 @@ some_bytes bytes = if length bytes == 0 then None else Some bytes
 -- UID:PATH, a uid of 32 bits and a path that is not empty; 58 is the colon
 abbrev pub door_in : List ℕ → Option (ℕ × List ℕ)
 door_in word = do
-  parts ← cut_at 58 word
-  uid ← decimal_up_to MAX_32 parts.0
-  path ← some_bytes parts.1
+  (before, behind) ← cut_at 58 word
+  uid ← decimal_up_to MAX_32 before
+  path ← some_bytes behind
   Some (uid, path)
 
 -- PID,START, a process id of 32 bits and a start time of 64; 44 is the comma
 abbrev pub process_in : List ℕ → Option (ℕ × ℕ)
 process_in word = do
-  parts ← cut_at 44 word
-  pid ← decimal_up_to MAX_32 parts.0
-  start ← decimal_up_to MAX_64 parts.1
+  (before, behind) ← cut_at 44 word
+  pid ← decimal_up_to MAX_32 before
+  start ← decimal_up_to MAX_64 behind
   Some (pid, start)

@@ -28,11 +28,11 @@ is_asked (Some value) = bytes_eq value (codes "true")
 -- what the values of the three options ask, where each has its form
 unfoldable pub plan_in : List ℕ → List ℕ → List ℕ → Bool → Option CheckPlan
 plan_in door action process ask = do
-  place ← door_in door
-  key ← process_in process
-  path ← text_in place.1
+  (uid, path) ← door_in door
+  (pid, start) ← process_in process
+  text ← text_in path
   id ← text_in action
-  Some (record { uid = place.0; path = path; action = id; pid = key.0; start = key.1; ask = ask })
+  Some (record { uid = uid; path = text; action = id; pid = pid; start = start; ask = ask })
 
 -- the same, where each option is there
 abbrev pub plan_given : Option (List ℕ) → Option (List ℕ) → Option (List ℕ) → Bool → Option CheckPlan

@@ -14,7 +14,7 @@ pub const MAX_64: u64 = 18_446_744_073_709_551_615;
 /// What stands before the first separator, and what stands behind it.
 #[tactic(auto, using(crate::proofs::Cuts::cut_found, crate::proofs::Cuts::cut_none))]
 fn halves(word: &[u8], separator: u8) -> Option<(&[u8], &[u8])>
-    ensures found { IfSome result (λ parts. cut_at separator word.now ≡ Some (parts.0.now, parts.1.now)) }
+    ensures found { IfSome result (λ (before, behind). cut_at separator word.now ≡ Some (before.now, behind.now)) }
     ensures none { IfNone result (cut_at separator word.now ≡ None) }
 {
     cut(word, separator)
@@ -22,7 +22,7 @@ fn halves(word: &[u8], separator: u8) -> Option<(&[u8], &[u8])>
 
 /// The uid and the path of `UID:PATH`. The path is not empty.
 pub fn door_in(word: &[u8]) -> Option<(u32, &[u8])>
-    ensures found { IfSome result (λ door. door_in word.now ≡ Some (door.0, door.1.now)) }
+    ensures found { IfSome result (λ (uid, path). door_in word.now ≡ Some (uid, path.now)) }
     ensures none { IfNone result (door_in word.now ≡ None) }
 {
     let (uid, path) = halves(word, b':')?;

@@ -9,7 +9,7 @@ use Rattle.door_words.specs.declared.door.TheConstants.{MAX_UID}
 -- a byte at the front of the first half
 abbrev pub onto_first : ℕ → Option (List ℕ × List ℕ) → Option (List ℕ × List ℕ)
 onto_first b None = None
-onto_first b (Some halves) = Some (b ∷ halves.0, halves.1)
+onto_first b (Some (before, behind)) = Some (b ∷ before, behind)
 
 -- what stands before the first separator, and what stands behind it
 abbrev pub cut_at : ℕ → List ℕ → Option (List ℕ × List ℕ)
@@ -22,7 +22,7 @@ some_bytes bytes = if length bytes == 0 then None else Some bytes
 
 -- the uid and the path of UID:PATH, a number of 32 bits and bytes that are not empty; 58 is the colon
 abbrev pub parts_of : List ℕ → Option (ℕ × List ℕ)
-parts_of word = option_and_then (λ halves. option_and_then (λ uid. option_map (λ path. (uid, path)) (some_bytes halves.1)) (decimal_up_to MAX_UID halves.0)) (cut_at 58 word)
+parts_of word = option_and_then (λ (before, behind). option_and_then (λ uid. option_map (λ path. (uid, path)) (some_bytes behind)) (decimal_up_to MAX_UID before)) (cut_at 58 word)
 
 -- a text, where nothing speaks against it
 abbrev pub unless : Option TextFault → List ℕ → Option (List ℕ)
@@ -35,4 +35,4 @@ text_in bytes = unless (text_fault_of bytes) bytes
 
 -- the door that a word names
 abbrev pub door_of : List ℕ → Option DoorPath
-door_of word = option_and_then (λ parts. option_map (λ path. record { uid = parts.0; path = path }) (text_in parts.1)) (parts_of word)
+door_of word = option_and_then (λ (uid, path). option_map (λ text. record { uid = uid; path = text }) (text_in path)) (parts_of word)

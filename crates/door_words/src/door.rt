@@ -21,7 +21,7 @@ pub struct DoorPath {
 /// What stands before the first colon, and what stands behind it.
 #[tactic(auto, using(crate::proofs::Cuts::cut_found, crate::proofs::Cuts::cut_none))]
 fn halves(word: &[u8]) -> Option<(&[u8], &[u8])>
-    ensures found { IfSome result (λ halves. cut_at 58 word.now ≡ Some (halves.0.now, halves.1.now)) }
+    ensures found { IfSome result (λ (before, behind). cut_at 58 word.now ≡ Some (before.now, behind.now)) }
     ensures none { IfNone result (cut_at 58 word.now ≡ None) }
 {
     cut(word, b':')
@@ -29,7 +29,7 @@ fn halves(word: &[u8]) -> Option<(&[u8], &[u8])>
 
 /// The uid and the path of a word `UID:PATH`.
 fn parts(word: &[u8]) -> Option<(u32, &[u8])>
-    ensures found { IfSome result (λ parts. parts_of word.now ≡ Some (parts.0, parts.1.now)) }
+    ensures found { IfSome result (λ (uid, path). parts_of word.now ≡ Some (uid, path.now)) }
     ensures none { IfNone result (parts_of word.now ≡ None) }
 {
     let (uid, path) = halves(word)?;

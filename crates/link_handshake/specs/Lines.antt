@@ -4,7 +4,7 @@ use Rattle.std.specs.Prelude.{ℕ, ◌≢◌, ◌≤◌, ◌==◌, nat_lt, List,
 -- a byte at the front of the first line
 abbrev pub onto_line : ℕ → Option (List ℕ × List ℕ) → Option (List ℕ × List ℕ)
 onto_line b None = None
-onto_line b (Some cut) = Some (b ∷ cut.0, cut.1)
+onto_line b (Some (line, rest)) = Some (b ∷ line, rest)
 
 -- the first line without its LF (10), and the bytes behind that
 abbrev pub first_line : List ℕ → Option (List ℕ × List ℕ)
@@ -19,7 +19,7 @@ pub data Front : Type 0 where
 
 -- a line has at most 511 bytes before its LF, and a part of a line at most 512
 abbrev pub front_of : Option (List ℕ × List ℕ) → ℕ → Front
-front_of (Some cut) len = if nat_lt (length cut.0) 512 then Line cut.0 cut.1 else Over
+front_of (Some (line, rest)) len = if nat_lt (length line) 512 then Line line rest else Over
 front_of None len = if nat_lt 512 len then Over else Part
 
 unfoldable pub front : List ℕ → Front

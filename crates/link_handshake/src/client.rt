@@ -82,26 +82,47 @@ fn is_ok(line: &[u8]) -> bool
     word == b"OK ".as_slice() && are_hex_digits(digits) && end == b"\r".as_slice()
 }
 
+/// What a byte of the awaited line brings about.
+#[derive(Clone, Copy)]
+struct ClientEffect {
+    /// How far the client has come then.
+    state: ClientState,
+    /// The step that is answered.
+    step: ClientStep,
+}
+
 /// Takes a byte of the line that is awaited.
-fn reply_byte(line: &mut OpenLine, byte: u8) -> (ClientState, ClientStep)
+fn reply_byte(line: &mut OpenLine, byte: u8) -> ClientEffect
     ensures step { (more : List ℕ) →
-        awaited (line.old ++ byte ∷ more) ≡ client_to_come_in result.0 line.new more }
-    ensures now { client_to_come_in result.0 line.new [] ≡ client_stands result.1 }
-    ensures over { client_over_in result.0 ≡ client_over_after result.1 }
+        awaited (line.old ++ byte ∷ more) ≡ client_to_come_in result.state line.new more }
+    ensures now { client_to_come_in result.state line.new [] ≡ client_stands result.step }
+    ensures over { client_over_in result.state ≡ client_over_after result.step }
 {
     if line.is_full() {
         let fault = ShakeFault::TooLong;
-        return (ClientState::Fault(fault), ClientStep::Fault(fault));
+        return ClientEffect {
+            state: ClientState::Fault(fault),
+            step: ClientStep::Fault(fault),
+        };
     }
     if byte != b'\n' {
         line.push(byte);
-        return (ClientState::Awaiting, ClientStep::More);
+        return ClientEffect {
+            state: ClientState::Awaiting,
+            step: ClientStep::More,
+        };
     }
     if is_ok(line.bytes()) {
-        return (ClientState::Accepted, ClientStep::SendBegin);
+        return ClientEffect {
+            state: ClientState::Accepted,
+            step: ClientStep::SendBegin,
+        };
     }
     let fault = ShakeFault::BadLine;
-    (ClientState::Fault(fault), ClientStep::Fault(fault))
+    ClientEffect {
+        state: ClientState::Fault(fault),
+        step: ClientStep::Fault(fault),
+    }
 }
 
 impl ClientShake {
@@ -131,9 +152,9 @@ impl ClientShake {
     {
         match self.state {
             ClientState::Awaiting => {
-                let (state, step) = reply_byte(&mut self.line, byte);
-                self.state = state;
-                step
+                let effect = reply_byte(&mut self.line, byte);
+                self.state = effect.state;
+                effect.step
             }
             ClientState::Accepted => ClientStep::SendBegin,
             ClientState::Fault(fault) => ClientStep::Fault(fault),

@@ -77,41 +77,65 @@ impl Model for Handshake {
     ghost view = { λ h. record { door = h.door; state = h.state; line = h.line } };
 }
 
+/// What a byte behind the byte 0 brings about.
+#[derive(Clone, Copy)]
+struct ByteEffect {
+    /// How far the handshake has come then.
+    state: State,
+    /// The step that is answered.
+    step: ShakeStep,
+}
+
 /// Where a handshake stands behind a line, and what is said there.
-fn behind_line(answered: LineAnswer, left: u8) -> (State, ShakeStep)
+fn behind_line(answered: LineAnswer, left: u8) -> ByteEffect
     ensures rest { (door : ℕ) (rest : List ℕ) →
-        then_answers (answers door left) rest answered ≡ said result.1 (to_come_in door result.0 [] rest) }
-    ensures now { (door : ℕ) → to_come_in door result.0 [] [] ≡ silent (stands result.1 []) }
-    ensures over { over_in result.0 ≡ over_after result.1 }
+        then_answers (answers door left) rest answered ≡ said result.step (to_come_in door result.state [] rest) }
+    ensures now { (door : ℕ) → to_come_in door result.state [] [] ≡ silent (stands result.step []) }
+    ensures over { over_in result.state ≡ over_after result.step }
 {
     match answered {
-        LineAnswer::Says(reply, phase) => (State::Lines { phase, left }, ShakeStep::Say(reply)),
-        LineAnswer::Begins => (State::Begun, ShakeStep::Begun),
-        LineAnswer::Bad => (
-            State::Fault(ShakeFault::BadLine),
-            ShakeStep::Fault(ShakeFault::BadLine),
-        ),
+        LineAnswer::Says(reply, phase) => ByteEffect {
+            state: State::Lines { phase, left },
+            step: ShakeStep::Say(reply),
+        },
+        LineAnswer::Begins => ByteEffect {
+            state: State::Begun,
+            step: ShakeStep::Begun,
+        },
+        LineAnswer::Bad => ByteEffect {
+            state: State::Fault(ShakeFault::BadLine),
+            step: ShakeStep::Fault(ShakeFault::BadLine),
+        },
     }
 }
 
 /// Takes a byte behind the byte 0.
-fn line_byte(door: u32, phase: Phase, left: u8, line: &mut OpenLine, byte: u8) -> (State, ShakeStep)
+fn line_byte(door: u32, phase: Phase, left: u8, line: &mut OpenLine, byte: u8) -> ByteEffect
     ensures step { (more : List ℕ) → answers door left phase (line.old ++ byte ∷ more)
-        ≡ said result.1 (to_come_in door result.0 line.new more) }
-    ensures now { to_come_in door result.0 line.new [] ≡ silent (stands result.1 []) }
-    ensures over { over_in result.0 ≡ over_after result.1 }
+        ≡ said result.step (to_come_in door result.state line.new more) }
+    ensures now { to_come_in door result.state line.new [] ≡ silent (stands result.step []) }
+    ensures over { over_in result.state ≡ over_after result.step }
 {
     if left == 0 {
         let fault = ShakeFault::TooMany;
-        return (State::Fault(fault), ShakeStep::Fault(fault));
+        return ByteEffect {
+            state: State::Fault(fault),
+            step: ShakeStep::Fault(fault),
+        };
     }
     if line.is_full() {
         let fault = ShakeFault::TooLong;
-        return (State::Fault(fault), ShakeStep::Fault(fault));
+        return ByteEffect {
+            state: State::Fault(fault),
+            step: ShakeStep::Fault(fault),
+        };
     }
     if byte != b'\n' {
         line.push(byte);
-        return (State::Lines { phase, left }, ShakeStep::More);
+        return ByteEffect {
+            state: State::Lines { phase, left },
+            step: ShakeStep::More,
+        };
     }
     let answered = answer(door, phase, line.bytes());
     line.clear();
@@ -159,9 +183,9 @@ impl Handshake {
                 ShakeStep::Fault(ShakeFault::BadLine)
             }
             State::Lines { phase, left } => {
-                let (state, step) = line_byte(self.door, phase, left, &mut self.line, byte);
-                self.state = state;
-                step
+                let effect = line_byte(self.door, phase, left, &mut self.line, byte);
+                self.state = effect.state;
+                effect.step
             }
             State::Begun => ShakeStep::Begun,
             State::Fault(fault) => ShakeStep::Fault(fault),

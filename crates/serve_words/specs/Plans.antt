@@ -52,7 +52,7 @@ behind_slots slots words = stopping_or slots words (value_of (codes "--stop-afte
 
 -- the amounts that the words behind the doors say
 abbrev pub amounts_in : List (List ℕ) → Option Amounts
-amounts_in words = option_and_then (λ found. option_and_then (λ n. behind_slots n found.1) (positive_up_to MAX_SLOTS found.0)) (value_of (codes "--slots") words)
+amounts_in words = option_and_then (λ (number, rest). option_and_then (λ n. behind_slots n rest) (positive_up_to MAX_SLOTS number)) (value_of (codes "--slots") words)
 
 -- the doors that the words name, behind some that were named before, and the words behind them
 abbrev pub doors_from : List DoorPath → List (List ℕ) → Option (List DoorPath × List (List ℕ))
@@ -70,11 +70,11 @@ planned root doors a =
 
 -- the plan of this root that the words behind it name
 abbrev pub plan_from : List ℕ → List (List ℕ) → Option ServePlan
-plan_from root words = option_and_then (λ named. option_and_then (planned root named.0) (amounts_in named.1)) (doors_from [] words)
+plan_from root words = option_and_then (λ (doors, rest). option_and_then (planned root doors) (amounts_in rest)) (doors_from [] words)
 
 -- the plan that the words behind `serve` name, where they are in the grammar
 abbrev pub plan_in : List (List ℕ) → Option ServePlan
-plan_in words = option_and_then (λ found. if is_root found.0 then plan_from found.0 found.1 else None) (value_of (codes "--root") words)
+plan_in words = option_and_then (λ (root, rest). if is_root root then plan_from root rest else None) (value_of (codes "--root") words)
 
 -- the amounts are in their ranges
 abbrev pub IsInRange : Amounts → Type 0

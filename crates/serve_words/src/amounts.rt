@@ -79,7 +79,7 @@ fn stopping(slots: u64, number: &Text, rest: &[Text]) -> Option<Amounts>
 /// The value of the option of this name, and the words behind it, where the words begin with that
 /// option.
 pub fn value_of<'a>(words: &'a [Text], name: &[u8]) -> Option<(&'a Text, &'a [Text])>
-    ensures found { IfSome result (λ found. value_of name.now words.now ≡ Some (found.0.now, found.1.now)) }
+    ensures found { IfSome result (λ (value, rest). value_of name.now words.now ≡ Some (value.now, rest.now)) }
     ensures none { IfNone result (value_of name.now words.now ≡ None) }
 {
     match words {

@@ -17,7 +17,7 @@ next_markup parent here (b ∷ bytes) =
     if b == 33 then (declaration here >>= λ rest. Ok (On rest))
     else (if b == 47 then (end_tag parent here >>= λ rest. Ok (Done (End rest)))
     else (if b == 63 then malformed here
-    else (name here (b ∷ bytes) >>= λ n. Ok (Done (Child n.0 here n.1)))))
+    else (name here (b ∷ bytes) >>= λ (found, rest). Ok (Done (Child found here rest)))))
 
 abbrev pub next_by : List ℕ → List ℕ → Result (Step (List ℕ) Next) Fault
 next_by parent [] = cut_off

@@ -22,8 +22,8 @@ declaration here =
 -- what follows the end tag at the front, of the element of that name
 unfoldable pub end_tag : List ℕ → List ℕ → Result (List ℕ) Fault
 end_tag wanted here = do
-  n ← name here (drop 2 here)
-  if bytes_eq n.0 wanted then behind_byte 62 (behind_spaces n.1) (behind_spaces n.1) else fault_at kind.Mismatch here
+  (found, rest) ← name here (drop 2 here)
+  if bytes_eq found wanted then behind_byte 62 (behind_spaces rest) (behind_spaces rest) else fault_at kind.Mismatch here
 
 abbrev pub ends_target : List ℕ → Bool
 ends_target [] = false
@@ -81,7 +81,7 @@ prolog_by may [] = Ok (Done [])
 prolog_by may (b ∷ bytes) = if b == 60 then prolog_markup may (b ∷ bytes) bytes else malformed (b ∷ bytes)
 
 unfoldable pub prolog_step : Prolog → Result (Step Prolog (List ℕ)) Fault
-prolog_step p = prolog_by p.0 (behind_spaces p.1)
+prolog_step (may, rest) = prolog_by may (behind_spaces rest)
 
 -- what follows white space, comments, processing instructions, and a DOCTYPE where it may come
 unfoldable pub prolog : Bool → List ℕ → Result (List ℕ) Fault

@@ -77,7 +77,7 @@ Reading = List ℕ × List ℕ
 
 -- the text with the reference at the front
 abbrev pub with_text : List ℕ → Result (List ℕ × List ℕ) Fault → Result Reading Fault
-with_text so_far (Ok r) = Ok (so_far ++ r.0, r.1)
+with_text so_far (Ok (text, rest)) = Ok (so_far ++ text, rest)
 with_text so_far (Err fault) = Err fault
 
 abbrev pub with_reference : List ℕ → List ℕ → Result Reading Fault

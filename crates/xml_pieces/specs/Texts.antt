@@ -46,7 +46,7 @@ value_by place quote so_far (b ∷ bytes) =
     else Ok (On (with_plain so_far b bytes))))
 
 unfoldable pub value_step : List ℕ → ℕ → Reading → Result (Step Reading Reading) Fault
-value_step place quote r = value_by place quote r.0 r.1
+value_step place quote (so_far, rest) = value_by place quote so_far rest
 
 -- a value behind its first quote
 unfoldable pub quoted_value : List ℕ → ℕ → List ℕ → Result Reading Fault
@@ -65,10 +65,10 @@ pub record Attribute : Type 0 where
 
 unfoldable pub attribute : List ℕ → Result Attribute Fault
 attribute here = do
-  n ← name here here
-  behind ← behind_byte 61 here (behind_spaces n.1)
-  v ← value here (behind_spaces behind)
-  Ok (record { name = n.0; value = v.0; rest = v.1 })
+  (found, behind_name) ← name here here
+  behind ← behind_byte 61 here (behind_spaces behind_name)
+  (text, rest) ← value here (behind_spaces behind)
+  Ok (record { name = found; value = text; rest = rest })
 
 -- the attributes so far, and the bytes that are left
 abbrev pub Attributes : Type 0
@@ -112,7 +112,7 @@ begins_spaced [] = false
 begins_spaced (b ∷ bytes) = is_space b
 
 unfoldable pub tag_step : Bool → Attributes → Result (Step Attributes Tag) Fault
-tag_step is_action s = tag_by is_action (begins_spaced s.1) s.0 (behind_spaces s.1)
+tag_step is_action (so_far, rest) = tag_by is_action (begins_spaced rest) so_far (behind_spaces rest)
 
 -- the rest of a start tag behind its name
 unfoldable pub tag : Bool → List ℕ → Result Tag Fault
@@ -135,7 +135,7 @@ text_by wanted place so_far (b ∷ bytes) =
     else Ok (On (with_plain so_far b bytes)))
 
 unfoldable pub text_step : List ℕ → List ℕ → Reading → Result (Step Reading Reading) Fault
-text_step wanted place r = text_by wanted place r.0 r.1
+text_step wanted place (so_far, rest) = text_by wanted place so_far rest
 
 -- the text up to the end tag of that name
 unfoldable pub whole_text : List ℕ → List ℕ → List ℕ → Result Reading Fault

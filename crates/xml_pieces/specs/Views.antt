@@ -30,13 +30,13 @@ abbrev pub AttributeMap : Type 0
 AttributeMap = IndexMap (Bor (List ℕ)) (List ℕ) (BuildHasherDefault FoldHasher)
 
 abbrev pub pair_in : Bor (List ℕ) × List ℕ → Pair
-pair_in e = record { key = e.0.now; value = e.1 }
+pair_in (name, value) = record { key = name.now; value = value }
 
 abbrev pub pairs : AttributeMap → List Pair
 pairs attributes = map pair_in attributes.entries
 
 abbrev pub attribute_of : Held × Bor (List ℕ) → Attribute
-attribute_of x = record { name = x.0.name.now; value = x.0.value; rest = x.1.now }
+attribute_of (held, rest) = record { name = held.name.now; value = held.value; rest = rest.now }
 
 abbrev pub tag_of : HeldTag → Tag
 tag_of t = record { attributes = pairs t.attributes; is_empty = t.is_empty; rest = t.rest.now }

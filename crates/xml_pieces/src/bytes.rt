@@ -59,7 +59,7 @@ pub fn before<'a>(rest: &[u8], bytes: &'a [u8]) -> &'a [u8]
 }
 
 fn named(bytes: &[u8]) -> Result<(&[u8], &[u8]), Stop>
-    ensures exact { Gives (λ x. (x.0.now, x.1.now)) result (named bytes.now (behind_name bytes.now)) }
+    ensures exact { Gives (λ (name, rest). (name.now, rest.now)) result (named bytes.now (behind_name bytes.now)) }
 {
     let rest = behind_name(bytes);
     if rest.is_empty() {
@@ -71,7 +71,7 @@ fn named(bytes: &[u8]) -> Result<(&[u8], &[u8]), Stop>
 /// A name, and the rest. Where none begins the fault is at the place.
 #[tactic(auto, unfolding(crate::specs::Bytes::name))]
 pub fn name<'a>(place: &[u8], bytes: &'a [u8]) -> Result<(&'a [u8], &'a [u8]), Stop>
-    ensures exact { Gives (λ x. (x.0.now, x.1.now)) result (name place.now bytes.now) }
+    ensures exact { Gives (λ (name, rest). (name.now, rest.now)) result (name place.now bytes.now) }
 {
     let Some((first, _)) = bytes.split_first() else {
         return Err(cut_off());

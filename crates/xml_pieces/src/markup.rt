@@ -143,7 +143,7 @@ fn doctype(here: &[u8]) -> Result<&[u8], Stop>
 /// rest.
 #[tactic(auto, unfolding(crate::specs::Markup::prolog_declaration))]
 fn prolog_declaration(may: bool, here: &[u8]) -> Result<(bool, &[u8]), Stop>
-    ensures exact { Gives (λ x. (x.0, x.1.now)) result (prolog_declaration may here.now) }
+    ensures exact { Gives (λ (may_still, rest). (may_still, rest.now)) result (prolog_declaration may here.now) }
 {
     if may && begins(b"<!DOCTYPE", here) {
         let rest = doctype(here)?;

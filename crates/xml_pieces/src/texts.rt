@@ -89,7 +89,7 @@ fn quoted_value<'a>(
     quote: u8,
     bytes: &'a [u8],
 ) -> Result<(Text, &'a [u8]), Stop>
-    ensures exact { Gives (λ x. (x.0, x.1.now)) result (quoted_value place.now quote bytes.now) }
+    ensures exact { Gives (λ (text, rest). (text, rest.now)) result (quoted_value place.now quote bytes.now) }
 {
     let mut so_far = Vec::new(alloc);
     let mut rest = bytes;
@@ -105,7 +105,7 @@ fn quoted_value<'a>(
 /// The value behind an attribute's `=`.
 #[tactic(auto, unfolding(crate::specs::Texts::value))]
 pub fn value<'a>(alloc: Global, place: &[u8], bytes: &'a [u8]) -> Result<(Text, &'a [u8]), Stop>
-    ensures exact { Gives (λ x. (x.0, x.1.now)) result (value place.now bytes.now) }
+    ensures exact { Gives (λ (text, rest). (text, rest.now)) result (value place.now bytes.now) }
 {
     let Some((quote, after)) = bytes.split_first() else {
         return Err(cut_off());
@@ -178,7 +178,7 @@ fn whole_text<'a>(
     place: &[u8],
     bytes: &'a [u8],
 ) -> Result<(Text, &'a [u8]), Stop>
-    ensures exact { Gives (λ x. (x.0, x.1.now)) result (whole_text wanted.now place.now bytes.now) }
+    ensures exact { Gives (λ (text, rest). (text, rest.now)) result (whole_text wanted.now place.now bytes.now) }
 {
     let mut so_far = Vec::new(alloc);
     let mut rest = bytes;
@@ -199,7 +199,7 @@ pub fn text<'a>(
     place: &[u8],
     tag: &StartTag<'a>,
 ) -> Result<(Text, &'a [u8]), Stop>
-    ensures exact { Gives (λ x. (x.0, x.1.now)) result (text wanted.now place.now (tag_of tag.now)) }
+    ensures exact { Gives (λ (text, rest). (text, rest.now)) result (text wanted.now place.now (tag_of tag.now)) }
 {
     if tag.is_empty {
         return Ok((Text::new(alloc), tag.rest));

@@ -23,4 +23,4 @@ returns-clause-step c = λ more.
     ∙ answers-line door c.args.left c.args.phase line more c.if-left-eq0.false c.bytes.ensures.line c.if-is_full.ensures.full
     ∙ ap (then_answers (answers door (c.args.left - 1)) more) (sym (c.answer-answered.ensures.answer ∙ ap (line_answer door c.args.phase) c.bytes.ensures.bytes))
     ∙ c.behind_line.ensures.rest door more
-    ∙ ap (λ line. said c.behind_line.result.1 (to_come_in door c.behind_line.result.0 line more)) (sym c.clear.ensures.empty)
+    ∙ ap (λ line. said c.behind_line.result.step (to_come_in door c.behind_line.result.state line more)) (sym c.clear.ensures.empty)
