@@ -37,6 +37,7 @@ const ROOM: usize = 4096;
 /// in their order.
 #[derive(Drop)]
 pub struct TwoDoors {
+    pub alloc: Global,
     pub door: Option<ByteLink>,
     pub helper: Option<ByteLink>,
     pub first: Option<Ends<ByteLink>>,
@@ -81,11 +82,11 @@ impl Station for TwoDoors {
     }
 
     fn clock(&mut self) -> ListClock {
-        ListClock {}
+        ListClock::empty(self.alloc)
     }
 
     fn salt(&mut self) -> ListSalt {
-        ListSalt {}
+        ListSalt::empty(self.alloc)
     }
 
     fn shut(&mut self, _door: ListDoor, _clock: ListClock, _salt: ListSalt) {}

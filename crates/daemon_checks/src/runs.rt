@@ -84,7 +84,7 @@ pub fn run_over<R: Threads + Wait + Sync>(
         alloc,
         words.as_slice(),
         tree,
-        &mut ListStation::new(),
+        &mut ListStation::empty(alloc),
         &mut source,
         &mut sink,
     );

@@ -158,7 +158,7 @@ fn link(alloc: Global, failing: Vec<u64>) -> Result<ByteLink, AllocError> {
 fn door_in_memory_is_closed(rt: HostRuntime) -> Result<(), Fail> {
     let alloc = rt.alloc();
     let path = path(alloc)?;
-    let mut station = ListStation::new();
+    let mut station = ListStation::empty(alloc);
     let Ok(mut door) = station.door(7, &path, 0) else {
         return Ok(());
     };
@@ -180,7 +180,7 @@ fn door_in_memory_is_closed(rt: HostRuntime) -> Result<(), Fail> {
 fn station_in_memory_counts_its_faults(rt: HostRuntime) -> Result<(), Fail> {
     let alloc = rt.alloc();
     let path = path(alloc)?;
-    let mut station = ListStation::new();
+    let mut station = ListStation::empty(alloc);
     assert!(rt; station.dial(&path).is_err());
     assert_eq!(rt; station.faults(), 1);
     let mut ends = link(alloc, vec![in alloc; 1]?)?.split();
@@ -193,7 +193,8 @@ fn station_in_memory_counts_its_faults(rt: HostRuntime) -> Result<(), Fail> {
 
 #[test]
 fn clock_and_salt_in_memory_give_0(rt: HostRuntime) {
-    let mut station = ListStation::new();
+    let alloc = rt.alloc();
+    let mut station = ListStation::empty(alloc);
     assert_eq!(rt; station.clock().now(), 0);
     assert_eq!(rt; station.salt().word(), 0);
 }

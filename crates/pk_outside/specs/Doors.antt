@@ -1,5 +1,5 @@
 -- What a door tells, and what its calls do to it.
-use Rattle.std.specs.Prelude.{◌≡◌, ◌++◌, [], ◌∷◌, List, ℕ, Option, None, Some}
+use Rattle.std.specs.Prelude.{◌≡◌, ◌++◌, [], ◌∷◌, List, ℕ, Option, None, Some, Bool, true, false}
 use Rattle.pk_outside.specs.Causes.{Rose}
 use Rattle.pk_outside.specs.Links.{Origin, LinkBack}
 use Rattle.pk_outside.specs.declared.door.Accepted.{Accepted}
@@ -41,6 +41,13 @@ AcceptCause before now (accepted.Link link) = Unit {0}
 AcceptCause before now accepted.Closed = Unit {0}
 AcceptCause before now accepted.Failed = Rose before now
 AcceptCause before now accepted.NoMemory = Unit {0}
+
+-- A call of `accept` failed; want of memory is no failure of the door.
+abbrev pub has_failed : {L : Type 0} → Accepted L → Bool
+has_failed (accepted.Link link) = false
+has_failed accepted.Closed = false
+has_failed accepted.Failed = true
+has_failed accepted.NoMemory = false
 
 -- This link was taken back, behind those before.
 abbrev pub TakesBack : Option DoorTold → Option DoorTold → (List ℕ → LinkBack → Type 0) → Type 0

@@ -1,6 +1,7 @@
 -- What the sources, sinks and links in memory hold.
-use Rattle.std.specs.Prelude.{◌≡◌, ℕ, ◌-◌, List, [], Bool, nat_eq, length, drop}
+use Rattle.std.specs.Prelude.{◌≡◌, ℕ, ◌-◌, List, [], Option, Some, Bool, nat_eq, length, drop}
 use Rattle.pk_outside.specs.Memory.{Counted}
+use Rattle.pk_outside.specs.Links.{Origin}
 use Rattle.pk_outside.specs.declared.memory.bytes.ByteSource.{ByteSource}
 use Rattle.pk_outside.specs.declared.memory.bytes.ByteSink.{ByteSink}
 use Rattle.pk_outside.specs.declared.memory.sure.SureSource.{SureSource}
@@ -9,9 +10,17 @@ use Rattle.pk_outside.specs.declared.memory.sure.SureSource.{SureSource}
 abbrev pub source_left : ByteSource → List ℕ
 source_left source = drop source.at source.bytes.items
 
+-- The path that its link was dialled at.
+abbrev pub source_path : ByteSource → List ℕ
+source_path source = source.path
+
 -- All of its bytes.
 abbrev pub source_bytes : ByteSource → List ℕ
 source_bytes source = source.bytes.items
+
+-- Where it is from, and all of its bytes.
+abbrev pub source_origin : ByteSource → Option Origin
+source_origin source = Some (record { path = source.path; bytes = source.bytes.items })
 
 -- How many bytes it can still give.
 abbrev pub source_budget : ByteSource → ℕ

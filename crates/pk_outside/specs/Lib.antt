@@ -7,8 +7,12 @@ pub mod Stations
 pub mod Trees
 pub mod Refusals
 pub mod Memory
+pub mod Returned
+pub mod Tally
 pub mod Held
 pub mod HeldLink
 pub mod HeldTree
-pub mod Empty
+pub mod HeldClock
+pub mod HeldDoor
+pub mod HeldStation
 pub mod Real

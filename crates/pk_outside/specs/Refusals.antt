@@ -27,6 +27,12 @@ abbrev pub StationRefusal : ℕ → ℕ → StationRefused → Type 0
 StationRefusal before now station_refused.Failed = Rose before now
 StationRefusal before now station_refused.NoMemory = Unit {0}
 
+-- A call on a station failed; want of memory is no failure of the station.
+abbrev pub station_failed : {T : Type 0} → Result T StationRefused → Bool
+station_failed (Ok value) = false
+station_failed (Err station_refused.Failed) = true
+station_failed (Err station_refused.NoMemory) = false
+
 -- A call on a station never lowers its count, and is refused for its cause.
 pub record StationCause {T : Type 0} (before now : ℕ) (result : Result T StationRefused) : Type 0 where
   pub later : before ≤ now

@@ -23,8 +23,8 @@ pub use dir_tree::DirTree;
 pub use door::{Accepted, Door};
 pub use link::{Ends, Link};
 pub use memory::{
-    ByteLink, ByteSink, ByteSource, ListClock, ListDoor, ListSalt, ListStation, ListTree, SureSink,
-    SureSource, SureTree,
+    ByteLink, ByteSink, ByteSource, DoorPlan, ListClock, ListDoor, ListSalt, ListStation, ListTree,
+    Readings, Returned, ReturnedDoor, ReturnedLink, StationPlan, SureSink, SureSource, SureTree,
 };
 pub use real::{ReadSource, WriteSink};
 pub use station::{Station, StationRefused};

@@ -7,6 +7,6 @@ use std::process::ExitCode;
 
 fn main(rt: HostRuntime) -> ExitCode {
     let mut tree = DirTree::new(&rt);
-    let mut station = ListStation::new();
+    let mut station = ListStation::empty(rt.alloc());
     daemon_program::run(&rt, &mut tree, &mut station)
 }

@@ -43,7 +43,7 @@ fn stop_two_slots<
     requires table { opened ≡ T.table }
 {
     let (shared, mut control) = Shared::<L, T>::start(alloc, limits, opened)?;
-    let mut station = ListStation::new();
+    let mut station = ListStation::empty(alloc);
     let path = Text::try_from_bytes(alloc, b"/u")?;
     let one = new_pass(rt, &shared, &mut control)?;
     let two = new_pass(rt, &shared, &mut control)?;

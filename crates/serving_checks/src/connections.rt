@@ -88,8 +88,8 @@ fn serve_each<
             &mut pass,
             &mut collector,
             1000,
-            &mut ListClock {},
-            &mut ListSalt {},
+            &mut ListClock::empty(alloc),
+            &mut ListSalt::empty(alloc),
             &mut source,
             &mut sink,
         );

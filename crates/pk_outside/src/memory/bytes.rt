@@ -6,14 +6,17 @@ ghost use Rattle.pk_outside.specs.Memory.{fails_next, one_call};
 ghost use Rattle.pk_outside.specs.Streams.{ReadGave, WriteGot};
 
 use crate::memory::Calls;
+use crate::memory::link::ReturnedLink;
+use crate::memory::seats::Seat;
 use crate::{Failed, Sink, Source};
-use pk_types::NoMemory;
+use pk_types::{NoMemory, Text};
 use std::alloc::Global;
 
 /// A source of bytes in memory, which gives them in pieces: in a call as many as the piece, the
 /// buffer and the bytes left allow. A call that fails leaves them.
 #[derive(Drop)]
 pub struct ByteSource {
+    path: Text,
     bytes: Vec<u8>,
     at: usize,
     piece: usize,
@@ -24,7 +27,7 @@ pub struct ByteSource {
 }
 
 impl ByteSource {
-    ghost use Rattle.pk_outside.specs.Held.{source_left, source_bytes, source_piece, source_calls};
+    ghost use Rattle.pk_outside.specs.Held.{source_left, source_path, source_bytes, source_piece, source_calls};
 
     /// A source of these bytes, at most `piece` of them in a call. The calls with the numbers in
     /// `failing` fail; the first call has the number 1.
@@ -32,16 +35,26 @@ impl ByteSource {
         requires some { 0 < piece }
         requires size { vec_len bytes ≤ 2 ^ 62 }
         ensures left { source_left result ≡ bytes.items }
+        ensures path { source_path result ≡ [] }
         ensures bytes { source_bytes result ≡ bytes.items }
         ensures piece { source_piece result ≡ piece }
         ensures calls { source_calls result ≡ record { made = 0; faults = 0; failing = failing.items } }
     {
         ByteSource {
+            path: Text::new(*bytes.allocator()),
             bytes,
             at: 0,
             piece,
             calls: Calls::failing_at(failing),
         }
+    }
+
+    /// The same source, of a link that was dialled at this path.
+    pub(crate) fn dialled(mut self, path: Text) -> Self
+        ensures path { result ≡ record self { path = path } }
+    {
+        self.path = path;
+        self
     }
 
     /// How many calls failed.
@@ -74,11 +87,11 @@ impl Source for ByteSource {
     ghost use Rattle.std.proofs.Common.{rules};
     ghost use Rattle.pk_outside.specs.Memory.{used_up};
     ghost use Rattle.pk_outside.specs.Links.{Origin};
-    ghost use Rattle.pk_outside.specs.Held.{source_left, source_calls, source_budget, source_ended, source_bytes, source_piece};
+    ghost use Rattle.pk_outside.specs.Held.{source_left, source_calls, source_budget, source_ended, source_path, source_bytes, source_piece};
 
     ghost left = { λ s. Some (drop s.at s.bytes.items) };
 
-    ghost origin = { λ s. Some (record { path = []; bytes = s.bytes.items }) };
+    ghost origin = { λ s. Some (record { path = s.path; bytes = s.bytes.items }) };
 
     ghost faults = { λ s. s.calls.faults };
 
@@ -96,6 +109,7 @@ impl Source for ByteSource {
         ensures bytes { ReadGave (Some (source_left self.old)) (Some (source_left self.new)) result buffer.new }
         ensures end { IfOk result (λ n. n ≡ 0 → IsTrue (source_ended self.new)) }
         ensures same { source_bytes self.new ≡ source_bytes self.old }
+        ensures path { source_path self.new ≡ source_path self.old }
         ensures cause { HasCause (source_calls self.old).faults (source_calls self.new).faults result }
         ensures quiet { OnOk result ((source_calls self.new).faults ≡ (source_calls self.old).faults) }
         ensures fewer { MatchResult result (λ n. source_budget self.new + n ≤ source_budget self.old)
@@ -119,18 +133,24 @@ impl Source for ByteSource {
 /// A sink in memory with a stated room, which takes bytes in pieces: in a call as many as the piece
 /// and the room left allow. A call that fails, and one that finds the room full, leaves what it
 /// holds.
+///
+/// It has the seat in which its link is kept when the link comes back, so that a door and a station
+/// take a link back without memory.
 #[derive(Drop)]
 pub struct ByteSink {
     bytes: Vec<u8>,
     room: usize,
     piece: usize,
     calls: Calls,
+    seat: Seat<ReturnedLink>,
     ghost piece_some: { 0 < piece },
     ghost reserved: { room ≤ vec_capacity bytes },
 }
 
 impl ByteSink {
-    ghost use Rattle.pk_outside.specs.Held.{sink_held, sink_calls, sink_piece, sink_room};
+    ghost use Rattle.pk_outside.specs.Links.{EndsTell};
+    ghost use Rattle.pk_outside.specs.Held.{source_origin, source_left, source_calls, sink_held, sink_calls, sink_piece, sink_room};
+    ghost use Rattle.pk_outside.specs.HeldLink.{link_back};
 
     /// An empty sink with room for so many bytes, which takes at most `piece` of them in a call.
     /// The calls with the numbers in `failing` fail; the first call has the number 1.
@@ -147,11 +167,13 @@ impl ByteSink {
         ensures calls { IfOk result (λ sink. sink_calls sink ≡ record { made = 0; faults = 0; failing = failing.items }) }
     {
         let bytes = Vec::with_capacity(alloc, room)?;
+        let seat = Seat::new(alloc)?;
         Ok(ByteSink {
             bytes,
             room,
             piece,
             calls: Calls::failing_at(failing),
+            seat,
         })
     }
 
@@ -167,6 +189,23 @@ impl ByteSink {
         ensures faults { result ≡ (sink_calls self.now).faults }
     {
         self.calls.faults()
+    }
+
+    /// What this sink and the source of its link hold when the link comes back, and the seat to
+    /// keep it in.
+    pub(crate) fn come_back(self, input: ByteSource) -> (ReturnedLink, Seat<ReturnedLink>)
+        ensures tells { EndsTell (source_origin input) (Some (source_left input)) (Some (sink_held self))
+            (source_calls input).faults (sink_calls self).faults result.0.path (link_back result.0) }
+    {
+        let link = ReturnedLink {
+            path: input.path,
+            given: input.bytes,
+            read: input.at,
+            written: self.bytes,
+            read_faults: input.calls.faults(),
+            write_faults: self.calls.faults(),
+        };
+        (link, self.seat)
     }
 }
 

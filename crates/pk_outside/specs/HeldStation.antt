@@ -1,0 +1,57 @@
+-- What the stations in memory hold.
+use Rattle.std.specs.Prelude.{ℕ, List, [], map}
+use Rattle.pk_outside.specs.Memory.{Counted}
+use Rattle.pk_outside.specs.Stations.{StationTold}
+use Rattle.pk_outside.specs.HeldLink.{link_bytes, link_hung}
+use Rattle.pk_outside.specs.HeldDoor.{door_back}
+use Rattle.pk_outside.specs.declared.memory.link.ReturnedLink.{ReturnedLink}
+use Rattle.pk_outside.specs.declared.memory.door.DoorPlan.{DoorPlan}
+use Rattle.pk_outside.specs.declared.memory.door.ReturnedDoor.{ReturnedDoor}
+use Rattle.pk_outside.specs.declared.memory.station.StationPlan.{StationPlan}
+use Rattle.pk_outside.specs.declared.memory.station.ListStation.{ListStation}
+
+-- The links that a door will give, each as its bytes.
+abbrev pub door_links : DoorPlan → List (List ℕ)
+door_links plan = map link_bytes plan.links
+
+-- What a station tells that begins with this plan.
+abbrev pub plan_told : StationPlan → StationTold
+plan_told plan = record {
+  doors = map door_links plan.doors;
+  links = map link_bytes plan.links;
+  clocks = plan.clocks;
+  salts = plan.salts;
+  shut = [];
+  hung = [];
+}
+
+-- What a station tells.
+abbrev pub station_told : ListStation → StationTold
+station_told station = record {
+  doors = map door_links station.doors.items;
+  links = map link_bytes station.links.items;
+  clocks = station.clocks.items;
+  salts = station.salts.items;
+  shut = map door_back station.shut;
+  hung = map link_hung station.hung;
+}
+
+-- How many faults a station counted.
+abbrev pub station_faults : ListStation → ℕ
+station_faults station = station.faults
+
+-- Its calls of `door`.
+abbrev pub calls_of_door : ListStation → Counted
+calls_of_door station = station.door_calls
+
+-- Its calls of `dial`.
+abbrev pub calls_of_dial : ListStation → Counted
+calls_of_dial station = station.dial_calls
+
+-- The doors that were shut.
+abbrev pub shut_doors : ListStation → List ReturnedDoor
+shut_doors station = station.shut
+
+-- The dialled links that were hung up.
+abbrev pub hung_links : ListStation → List ReturnedLink
+hung_links station = station.hung
