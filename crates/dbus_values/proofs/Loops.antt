@@ -21,6 +21,11 @@ down n i lt = omega arith
 pub ended_at : (n i : ℕ) → n ≤ i → n - i ≡ 0
 ended_at n i le = omega arith
 
+pub zeros_none : (n at : ℕ) (bytes : List ℕ) → n ≡ 0 → zeros n at bytes ≡ Ok (spot_at at bytes)
+unfolding zeros
+zeros_none zero at bytes is = refl
+zeros_none (suc n) at bytes is = absurd (omega arith)
+
 pub zeros_step : (n i at : ℕ) (rest : List ℕ) (total : Result Spot Fault) → i < n → 1 ≤ length rest → get_or rest 0 0 ≡ 0 → zeros (n - i) at rest ≡ total → zeros (n - (i + 1)) (at + 1) (drop 1 rest) ≡ total
 unfolding zeros
 zeros_step n i at [] total lt long is so_far = absurd (omega arith)

@@ -5,6 +5,7 @@ pub mod Signatures
 pub mod Basics
 pub mod Opened
 pub mod Walk
+pub mod Places
 pub mod Header
 pub mod Messages
 pub mod Starts

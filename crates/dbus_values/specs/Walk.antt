@@ -67,6 +67,10 @@ enter_variant fs sig at bytes = do
   end ← rest_of (after_type s.0) at
   if length end == 0 then Ok (part.Variant s.0, state (open_part.Inner sig ∷ fs) s.0 s.1.at s.1.rest) else bad fault.Text at
 
+-- a value of a basic type, from its first byte
+abbrev pub enter_leaf : Class → Bool → List Open → ℕ → List ℕ → ℕ → List ℕ → Result (Piece × State) Fault
+enter_leaf k big fs c sig at bytes = leaf_at k big c at bytes >>= λ x. resumed x.0 fs sig x.1.at x.1.rest
+
 -- the first part of a value from its first byte, by the class of its type code
 abbrev pub enter_by : Class → ℕ → Bool → List Open → ℕ → List ℕ → ℕ → List ℕ → Result (Piece × State) Fault
 enter_by class.Array limit big fs c sig at bytes = if nat_lt (length fs) limit then enter_array big fs sig at bytes else bad fault.Depth at
@@ -74,12 +78,16 @@ enter_by class.Struct limit big fs c sig at bytes = if nat_lt (length fs) limit 
 enter_by class.Variant limit big fs c sig at bytes = if nat_lt (length fs) limit then enter_variant fs sig at bytes else bad fault.Depth at
 enter_by class.Entry limit big fs c sig at bytes = bad fault.Text at
 enter_by class.Other limit big fs c sig at bytes = bad fault.Text at
-enter_by k limit big fs c sig at bytes = leaf_at k big c at bytes >>= λ x. resumed x.0 fs sig x.1.at x.1.rest
+enter_by k limit big fs c sig at bytes = enter_leaf k big fs c sig at bytes
+
+-- the first part of a value of any class, with the padding before it
+abbrev pub enter_any : Class → ℕ → Bool → List Open → ℕ → List ℕ → ℕ → List ℕ → Result (Piece × State) Fault
+enter_any k limit big fs c sig at bytes = pad (align_of k) at bytes >>= λ p. enter_by k limit big fs c sig p.at p.rest
 
 -- the first part of the value of the first type, with the padding before it
 unfoldable pub enter : ℕ → Bool → List Open → List ℕ → ℕ → List ℕ → Result (Piece × State) Fault
 enter limit big fs [] at bytes = bad fault.Text at
-enter limit big fs (c ∷ sig) at bytes = pad (align_of (class_of c)) at bytes >>= λ p. enter_by (class_of c) limit big fs c sig p.at p.rest
+enter limit big fs (c ∷ sig) at bytes = enter_any (class_of c) limit big fs c sig at bytes
 
 -- the beginning of a dict entry, with the padding before it
 unfoldable pub enter_entry : ℕ → List Open → List ℕ → ℕ → List ℕ → Result (Piece × State) Fault

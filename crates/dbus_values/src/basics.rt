@@ -47,12 +47,18 @@ pub fn gap(n: usize, at: usize) -> usize
 
 /// What follows the padding up to the next multiple of n.
 #[inline(always)]
+#[tactic(auto, using(crate::proofs::Loops::zeros_none))]
 pub fn pad(n: usize, from: Cursor) -> Result<Cursor, Fault>
     requires low { 0 < n }
     requires high { n ≤ 8 }
     ensures exact { Gives spot result (pad n from.entry.at from.entry.rest.now) }
 {
-    zeros(gap(n, from.at), from)
+    let padding = gap(n, from.at);
+    if padding == 0 {
+        Ok(from)
+    } else {
+        zeros(padding, from)
+    }
 }
 
 /// A byte.

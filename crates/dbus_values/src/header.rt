@@ -13,9 +13,8 @@ use crate::codes::{
 use crate::cursor::Cursor;
 use crate::fault::{Fault, FaultKind};
 use crate::fields::Fields;
-use crate::frames::Frames;
 use crate::strings::{signature_at, string_at};
-use crate::walk::values_at;
+use crate::walk::{Walk, values_at};
 
 impl<'a> Fields<'a> {
     /// Whether there is the field of this code.
@@ -152,14 +151,10 @@ fn known_field<'a>(
 
 /// An unknown field behind its code, a variant, which is passed over.
 #[tactic(auto, unfolding(crate::specs::Header::passed_field))]
-fn passed_field<'a>(
-    big: bool,
-    frames: &mut Frames<'a>,
-    from: Cursor<'a>,
-) -> Result<Cursor<'a>, Fault>
+fn passed_field<'a>(big: bool, walk: &mut Walk<'a>, from: Cursor<'a>) -> Result<Cursor<'a>, Fault>
     ensures exact { Gives spot result (passed_field big from.entry.at from.entry.rest.now) }
 {
-    let (_, after) = values_at(62, big, frames, b"v", from)?;
+    let (_, after) = values_at(62, big, walk, b"v", from)?;
     Ok(after)
 }
 
@@ -167,7 +162,7 @@ fn passed_field<'a>(
 #[tactic(auto, unfolding(crate::specs::Header::field_at))]
 fn field_at<'a>(
     big: bool,
-    frames: &mut Frames<'a>,
+    walk: &mut Walk<'a>,
     fields: Fields<'a>,
     from: Cursor<'a>,
 ) -> Result<(Fields<'a>, Cursor<'a>), Fault>
@@ -181,17 +176,13 @@ fn field_at<'a>(
     if code <= UNIX_FDS {
         return known_field(big, here.at, code, fields, rest);
     }
-    let after = passed_field(big, frames, rest)?;
+    let after = passed_field(big, walk, rest)?;
     Ok((fields, after))
 }
 
 /// The fields up to the end of the bytes.
 #[tactic(auto, using(crate::proofs::Loops::fields_rules))]
-pub fn fields_at<'a>(
-    big: bool,
-    frames: &mut Frames<'a>,
-    from: Cursor<'a>,
-) -> Result<Fields<'a>, Fault>
+pub fn fields_at<'a>(big: bool, walk: &mut Walk<'a>, from: Cursor<'a>) -> Result<Fields<'a>, Fault>
     ensures exact { Gives header result (fields_at (length from.entry.rest.now) big no_fields from.entry.at from.entry.rest.now) }
 {
     let mut fields = Fields {
@@ -210,7 +201,7 @@ pub fn fields_at<'a>(
         if here.rest.is_empty() {
             return Ok(fields);
         }
-        let (more, after) = field_at(big, frames, fields, here)?;
+        let (more, after) = field_at(big, walk, fields, here)?;
         fields = more;
         here = after;
     }

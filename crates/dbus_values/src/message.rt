@@ -14,10 +14,9 @@ use crate::basics::{gap, pad};
 use crate::cursor::Cursor;
 use crate::fault::{Fault, FaultKind, Stop};
 use crate::fields::Fields;
-use crate::frames::Frames;
 use crate::header::fields_at;
 use crate::start::{Start, start_of};
-use crate::walk::values_at;
+use crate::walk::{Walk, values_at};
 use crate::wire_message::WireMessage;
 
 /// What a stream of bytes begins with.
@@ -43,13 +42,13 @@ pub enum Next<'a> {
 #[tactic(auto, unfolding(crate::specs::Messages::body_at))]
 fn body_at<'a>(
     big: bool,
-    frames: &mut Frames<'a>,
+    walk: &mut Walk<'a>,
     signature: &'a [u8],
     from: Cursor<'a>,
 ) -> Result<usize, Fault>
     ensures exact { Gives (λ n. n) result (body_at big signature.now from.entry.at from.entry.rest.now) }
 {
-    let (parts, after) = values_at(64, big, frames, signature, from)?;
+    let (parts, after) = values_at(64, big, walk, signature, from)?;
     if after.rest.is_empty() {
         Ok(parts)
     } else {
@@ -61,7 +60,7 @@ fn body_at<'a>(
 #[tactic(auto, unfolding(crate::specs::Messages::padded_body))]
 fn padded_body<'a>(
     big: bool,
-    frames: &mut Frames<'a>,
+    walk: &mut Walk<'a>,
     signature: &'a [u8],
     from: Cursor<'a>,
 ) -> Result<(usize, Cursor<'a>), Fault>
@@ -69,7 +68,7 @@ fn padded_body<'a>(
     ensures walked { IfOk result (λ x. body_at big signature.now x.1.at x.1.rest.now ≡ Ok x.0) }
 {
     let begin = pad(8, from)?;
-    let parts = body_at(big, frames, signature, begin)?;
+    let parts = body_at(big, walk, signature, begin)?;
     Ok((parts, begin))
 }
 
@@ -116,12 +115,12 @@ fn message_of<'a>(first: Start, bytes: &'a [u8]) -> Result<(Fields<'a>, (usize, 
     ensures walked { IfOk result (λ x. body_at first.big (signature_of (header x.0)) x.1.1.at x.1.1.rest.now ≡ Ok x.1.0) }
 {
     let (inside, outside) = halves(first, bytes);
-    let mut frames = Frames::new();
-    let fields = fields_at(first.big, &mut frames, inside)?;
+    let mut walk = Walk::new(&bytes[..0], inside);
+    let fields = fields_at(first.big, &mut walk, inside)?;
     if fields.lacks(first.kind) {
         return Err(Fault::new(FaultKind::Fields, 12));
     }
-    let body = padded_body(first.big, &mut frames, signature_of(&fields), outside)?;
+    let body = padded_body(first.big, &mut walk, signature_of(&fields), outside)?;
     Ok((fields, body))
 }
 

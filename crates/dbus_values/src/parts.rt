@@ -5,9 +5,8 @@ ghost use Rattle.dbus_values.specs.Parts.{piece};
 ghost use Rattle.dbus_values.specs.Walk.{state, parts, Lasts};
 
 use crate::cursor::Cursor;
-use crate::frames::Frames;
 use crate::part::Part;
-use crate::walk::next_part;
+use crate::walk::{Walk, next_part};
 use std::marker::Model;
 
 /// The parts of a message's body that have not been given yet. It takes no memory.
@@ -15,21 +14,20 @@ use std::marker::Model;
 pub struct Parts<'a> {
     big: bool,
     left: usize,
-    frames: Frames<'a>,
-    types: &'a [u8],
-    here: Cursor<'a>,
+    walk: Walk<'a>,
 }
 
 impl<'a> Model for Parts<'a> {
     ghost use Rattle.std.specs.Prelude.{List};
     ghost use Rattle.dbus_values.specs.Parts.{Piece};
-    ghost use Rattle.dbus_values.specs.Walk.{state, parts, Lasts};
+    ghost use Rattle.dbus_values.specs.Walk.{parts, Lasts};
+    ghost use Rattle.dbus_values.specs.Places.{place};
 
     ghost Value = { List Piece };
 
-    ghost view = { λ p. parts p.left 64 p.big (state p.frames p.types.now p.here.at p.here.rest.now) };
+    ghost view = { λ p. parts p.left 64 p.big (place p.walk) };
 
-    ghost invariant = { λ p. Lasts p.left 64 p.big (state p.frames p.types.now p.here.at p.here.rest.now) };
+    ghost invariant = { λ p. Lasts p.left 64 p.big (place p.walk) };
 }
 
 impl<'a> Parts<'a> {
@@ -41,9 +39,7 @@ impl<'a> Parts<'a> {
         Parts {
             big,
             left,
-            frames: Frames::new(),
-            types: signature,
-            here: from,
+            walk: Walk::new(signature, from),
         }
     }
 
@@ -55,10 +51,8 @@ impl<'a> Parts<'a> {
         if self.left == 0 {
             return None;
         }
-        match next_part(64, self.big, &mut self.frames, self.types, self.here) {
-            Ok((part, types, here)) => {
-                self.types = types;
-                self.here = here;
+        match next_part(64, self.big, &mut self.walk) {
+            Ok(part) => {
                 self.left -= 1;
                 Some(part)
             }

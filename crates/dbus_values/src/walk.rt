@@ -1,13 +1,12 @@
 // A walk over values, part by part.
-ghost use Rattle.std.specs.Prelude.{◌≡◌, ◌<◌, ◌≤◌, ◌+◌, ◌-◌, ◌∷◌, [], Ok, Err, MatchResult, IfSome, length, take, drop, slice_index};
-ghost use Rattle.std.specs.Option.{option_map};
+ghost use Rattle.std.specs.Prelude.{◌≡◌, ◌<◌, ◌≤◌, ◌+◌, ◌-◌, ◌∷◌, [], Ok, Err, MatchResult, length, take, drop};
 ghost use Rattle.dbus_values.specs.Reading.{Gives};
 ghost use Rattle.dbus_values.specs.Parts.{piece, spot};
-ghost use Rattle.dbus_values.specs.Parts as part;
 ghost use Rattle.dbus_values.specs.Opened as opened_part;
 ghost use Rattle.dbus_values.specs.Signatures.{after_item, after_type};
-ghost use Rattle.dbus_values.specs.Walk.{State, state, rest_of, resume, resumed, enter_array, enter_struct, enter_variant, enter_by, enter, enter_entry, enter_item, in_items, in_members, in_key, in_closing, next_in, walked, values_at};
+ghost use Rattle.dbus_values.specs.Walk.{state, rest_of, resume, resumed, enter_array, enter_struct, enter_variant, enter_leaf, enter_by, enter_any, enter, enter_entry, enter_item, in_items, in_members, in_key, in_closing, next_in, walked, values_at};
 ghost use Rattle.dbus_values.specs.Opened.{innermost, outer};
+ghost use Rattle.dbus_values.specs.Places.{place, Leads};
 
 use crate::basics::{gap, pad, u32_at};
 use crate::class::Class;
@@ -18,8 +17,27 @@ use crate::part::Part;
 use crate::signature::{after_type, front_of, item_align};
 use crate::strings::{leaf_at, signature_at};
 
-/// A part, the types that are left behind it, and the place behind it.
-pub type Step<'a> = (Part<'a>, &'a [u8], Cursor<'a>);
+/// A walk: the containers that are open, the types that are left of the innermost, and the place.
+/// Each step moves it on where it stands, since moving it would cost more than most steps.
+#[derive(Drop)]
+pub struct Walk<'a> {
+    frames: Frames<'a>,
+    types: &'a [u8],
+    here: Cursor<'a>,
+}
+
+impl<'a> Walk<'a> {
+    /// The walk over the values of a signature, before its first step.
+    pub fn new(types: &'a [u8], here: Cursor<'a>) -> Walk<'a>
+        ensures { place result ≡ state [] types.now here.entry.at here.entry.rest.now }
+    {
+        Walk {
+            frames: Frames::new(),
+            types,
+            here,
+        }
+    }
+}
 
 /// An array that is open: the signature of its items, and the types and the bytes behind it.
 #[derive(Clone, Copy)]
@@ -51,7 +69,6 @@ fn rest_of_item<'a>(frames: &mut Frames<'a>, sig: &'a [u8], at: usize) -> Result
 }
 
 /// Closes the variants whose value ends here, and gives the types that are left behind them.
-#[inline(always)]
 #[tactic(auto, using(crate::proofs::Steps::resume_rules))]
 fn resume<'a>(frames: &mut Frames<'a>, types: &'a [u8], at: usize) -> Result<&'a [u8], Fault>
     ensures exact { MatchResult result
@@ -83,19 +100,31 @@ fn resume<'a>(frames: &mut Frames<'a>, types: &'a [u8], at: usize) -> Result<&'a
 
 /// A part that ends a value, and what the walk goes on with behind it.
 #[inline(always)]
-#[tactic(auto, unfolding(crate::specs::Walk::resumed))]
+#[tactic(auto, using(crate::proofs::Steps::resume_rules), unfolding(crate::specs::Walk::resumed))]
 fn resumed<'a>(
-    frames: &mut Frames<'a>,
+    walk: &mut Walk<'a>,
     part: Part<'a>,
     types: &'a [u8],
-    from: Cursor<'a>,
-) -> Result<Step<'a>, Fault>
-    ensures exact { MatchResult result
-        (λ x. resumed (piece part.entry) frames.old types.now from.entry.at from.entry.rest.now ≡ Ok (piece x.0, state frames.new x.1.now x.2.at x.2.rest.now))
-        (λ e. resumed (piece part.entry) frames.old types.now from.entry.at from.entry.rest.now ≡ Err e) }
+    after: Cursor<'a>,
+) -> Result<Part<'a>, Fault>
+    ensures exact { Leads result walk.new (resumed (piece part.entry) walk.old.frames types.now after.entry.at after.entry.rest.now) }
 {
-    let types = resume(frames, types, from.at)?;
-    Ok((part, types, from))
+    walk.here = after;
+    walk.types = types;
+    match walk.frames.top() {
+        None => Ok(part),
+        Some(frame) => match frame {
+            Frame::Inner { .. } => {
+                walk.types = resume(&mut walk.frames, types, after.at)?;
+                Ok(part)
+            }
+            Frame::Items { .. } => Ok(part),
+            Frame::Members => Ok(part),
+            Frame::Key => Ok(part),
+            Frame::Value => Ok(part),
+            Frame::Closing => Ok(part),
+        },
+    }
 }
 
 /// No type.
@@ -109,16 +138,14 @@ fn nothing(sig: &[u8]) -> &[u8]
 #[tactic(auto, unfolding(crate::specs::Walk::enter_array))]
 fn enter_array<'a>(
     big: bool,
-    frames: &mut Frames<'a>,
+    walk: &mut Walk<'a>,
     sig: &'a [u8],
     from: Cursor<'a>,
-) -> Result<Step<'a>, Fault>
-    requires { length frames.old < 64 }
-    ensures exact { MatchResult result
-        (λ x. enter_array big frames.old sig.now from.entry.at from.entry.rest.now ≡ Ok (piece x.0, state frames.new x.1.now x.2.at x.2.rest.now))
-        (λ e. enter_array big frames.old sig.now from.entry.at from.entry.rest.now ≡ Err e) }
+) -> Result<Part<'a>, Fault>
+    requires { length walk.old.frames < 64 }
+    ensures exact { Leads result walk.new (enter_array big walk.old.frames sig.now from.entry.at from.entry.rest.now) }
 {
-    let end = rest_of_item(frames, sig, from.at)?;
+    let end = rest_of_item(&mut walk.frames, sig, from.at)?;
     let (n, rest) = u32_at(big, from)?;
     let n = n as usize;
     let align = item_align(sig);
@@ -127,30 +154,26 @@ fn enter_array<'a>(
     }
     let start = pad(align, rest)?;
     let (inside, outside) = start.rest.split_at(n);
-    frames.push(Frame::Items {
+    walk.frames.push(Frame::Items {
         item: front_of(sig, end),
         types: end,
         behind: start.at + n,
         outside,
     });
-    let here = Cursor {
+    walk.types = nothing(sig);
+    walk.here = Cursor {
         at: start.at,
         rest: inside,
     };
-    Ok((Part::Enter { kind: b'a' }, nothing(sig), here))
+    Ok(Part::Enter { kind: b'a' })
 }
 
 /// The beginning of a structure, which has at least one member.
+#[inline(always)]
 #[tactic(auto, using(crate::proofs::Steps::struct_rules))]
-fn enter_struct<'a>(
-    frames: &mut Frames<'a>,
-    sig: &'a [u8],
-    from: Cursor<'a>,
-) -> Result<Step<'a>, Fault>
-    requires { length frames.old < 64 }
-    ensures exact { MatchResult result
-        (λ x. enter_struct frames.old sig.now from.entry.at from.entry.rest.now ≡ Ok (piece x.0, state frames.new x.1.now x.2.at x.2.rest.now))
-        (λ e. enter_struct frames.old sig.now from.entry.at from.entry.rest.now ≡ Err e) }
+fn enter_struct<'a>(walk: &mut Walk<'a>, sig: &'a [u8], from: Cursor<'a>) -> Result<Part<'a>, Fault>
+    requires { length walk.old.frames < 64 }
+    ensures exact { Leads result walk.new (enter_struct walk.old.frames sig.now from.entry.at from.entry.rest.now) }
 {
     if sig.is_empty() {
         return Err(Fault::new(FaultKind::Text, from.at));
@@ -158,31 +181,49 @@ fn enter_struct<'a>(
     if sig[0] == b')' {
         Err(Fault::new(FaultKind::Text, from.at))
     } else {
-        frames.push(Frame::Members);
-        Ok((Part::Enter { kind: b'(' }, sig, from))
+        walk.frames.push(Frame::Members);
+        walk.types = sig;
+        walk.here = from;
+        Ok(Part::Enter { kind: b'(' })
     }
 }
 
 /// The beginning of a variant: its signature, which is one complete type.
 #[tactic(auto, unfolding(crate::specs::Walk::enter_variant))]
 fn enter_variant<'a>(
-    frames: &mut Frames<'a>,
+    walk: &mut Walk<'a>,
     sig: &'a [u8],
     from: Cursor<'a>,
-) -> Result<Step<'a>, Fault>
-    requires { length frames.old < 64 }
-    ensures exact { MatchResult result
-        (λ x. enter_variant frames.old sig.now from.entry.at from.entry.rest.now ≡ Ok (piece x.0, state frames.new x.1.now x.2.at x.2.rest.now))
-        (λ e. enter_variant frames.old sig.now from.entry.at from.entry.rest.now ≡ Err e) }
+) -> Result<Part<'a>, Fault>
+    requires { length walk.old.frames < 64 }
+    ensures exact { Leads result walk.new (enter_variant walk.old.frames sig.now from.entry.at from.entry.rest.now) }
 {
     let (signature, rest) = signature_at(from)?;
     let end = rest_of(signature, from.at)?;
     if end.is_empty() {
-        frames.push(Frame::Inner { types: sig });
-        Ok((Part::Variant { signature }, signature, rest))
+        walk.frames.push(Frame::Inner { types: sig });
+        walk.types = signature;
+        walk.here = rest;
+        Ok(Part::Variant { signature })
     } else {
         Err(Fault::new(FaultKind::Text, from.at))
     }
+}
+
+/// The value of a basic type, from its first byte.
+#[inline(always)]
+fn enter_leaf<'a>(
+    class: Class,
+    big: bool,
+    walk: &mut Walk<'a>,
+    letter: u8,
+    sig: &'a [u8],
+    from: Cursor<'a>,
+) -> Result<Part<'a>, Fault>
+    ensures exact { Leads result walk.new (enter_leaf class big walk.old.frames letter sig.now from.entry.at from.entry.rest.now) }
+{
+    let (part, after) = leaf_at(class, big, letter, from)?;
+    resumed(walk, part, sig, after)
 }
 
 /// The first part of a value, from its first byte. At most `limit` containers stand inside each
@@ -192,35 +233,33 @@ fn enter_by<'a>(
     class: Class,
     limit: usize,
     big: bool,
-    frames: &mut Frames<'a>,
+    walk: &mut Walk<'a>,
     letter: u8,
     sig: &'a [u8],
     from: Cursor<'a>,
-) -> Result<Step<'a>, Fault>
+) -> Result<Part<'a>, Fault>
     requires { limit ≤ 64 }
-    ensures exact { MatchResult result
-        (λ x. enter_by class limit big frames.old letter sig.now from.entry.at from.entry.rest.now ≡ Ok (piece x.0, state frames.new x.1.now x.2.at x.2.rest.now))
-        (λ e. enter_by class limit big frames.old letter sig.now from.entry.at from.entry.rest.now ≡ Err e) }
+    ensures exact { Leads result walk.new (enter_by class limit big walk.old.frames letter sig.now from.entry.at from.entry.rest.now) }
 {
-    let room = frames.len() < limit;
+    let room = walk.frames.len() < limit;
     match class {
         Class::Array => {
             if room {
-                enter_array(big, frames, sig, from)
+                enter_array(big, walk, sig, from)
             } else {
                 Err(Fault::new(FaultKind::Depth, from.at))
             }
         }
         Class::Struct => {
             if room {
-                enter_struct(frames, sig, from)
+                enter_struct(walk, sig, from)
             } else {
                 Err(Fault::new(FaultKind::Depth, from.at))
             }
         }
         Class::Variant => {
             if room {
-                enter_variant(frames, sig, from)
+                enter_variant(walk, sig, from)
             } else {
                 Err(Fault::new(FaultKind::Depth, from.at))
             }
@@ -233,53 +272,90 @@ fn enter_by<'a>(
         | Class::Long
         | Class::Text
         | Class::Path
-        | Class::Signature => {
-            let (part, after) = leaf_at(class, big, letter, from)?;
-            resumed(frames, part, sig, after)
-        }
+        | Class::Signature => enter_leaf(class, big, walk, letter, sig, from),
     }
+}
+
+/// The first part of a value of any class, with the padding before it.
+#[inline(never)]
+fn enter_any<'a>(
+    class: Class,
+    limit: usize,
+    big: bool,
+    walk: &mut Walk<'a>,
+    letter: u8,
+    sig: &'a [u8],
+) -> Result<Part<'a>, Fault>
+    requires { limit ≤ 64 }
+    ensures exact { Leads result walk.new (enter_any class limit big walk.old.frames letter sig.now walk.old.here.at walk.old.here.rest.now) }
+{
+    let start = pad(class.align(), walk.here)?;
+    enter_by(class, limit, big, walk, letter, sig, start)
 }
 
 /// The first part of the value of the first type, with the padding before it.
 #[inline(always)]
 #[tactic(auto, using(crate::proofs::Steps::enter_rules))]
-fn enter<'a>(
-    limit: usize,
-    big: bool,
-    frames: &mut Frames<'a>,
-    sig: &'a [u8],
-    from: Cursor<'a>,
-) -> Result<Step<'a>, Fault>
+fn enter<'a>(limit: usize, big: bool, walk: &mut Walk<'a>, sig: &'a [u8]) -> Result<Part<'a>, Fault>
     requires { limit ≤ 64 }
-    ensures exact { MatchResult result
-        (λ x. enter limit big frames.old sig.now from.entry.at from.entry.rest.now ≡ Ok (piece x.0, state frames.new x.1.now x.2.at x.2.rest.now))
-        (λ e. enter limit big frames.old sig.now from.entry.at from.entry.rest.now ≡ Err e) }
+    ensures exact { Leads result walk.new (enter limit big walk.old.frames sig.now walk.old.here.at walk.old.here.rest.now) }
 {
     if sig.is_empty() {
-        return Err(Fault::new(FaultKind::Text, from.at));
+        return Err(Fault::new(FaultKind::Text, walk.here.at));
     }
-    let class = Class::of(sig[0]);
-    let start = pad(class.align(), from)?;
-    enter_by(class, limit, big, frames, sig[0], behind_first(sig), start)
+    enter_any(
+        Class::of(sig[0]),
+        limit,
+        big,
+        walk,
+        sig[0],
+        behind_first(sig),
+    )
+}
+
+/// The same, with a short way for bytes and for structures, of which a body can have most.
+#[inline(always)]
+#[tactic(auto, using(crate::proofs::Steps::enter_rules))]
+fn enter_short<'a>(
+    limit: usize,
+    big: bool,
+    walk: &mut Walk<'a>,
+    sig: &'a [u8],
+) -> Result<Part<'a>, Fault>
+    requires limit { limit ≤ 64 }
+    requires typed { 1 ≤ length sig.now }
+    ensures exact { Leads result walk.new (enter limit big walk.old.frames sig.now walk.old.here.at walk.old.here.rest.now) }
+{
+    let behind = behind_first(sig);
+    match Class::of(sig[0]) {
+        Class::Byte => {
+            let start = pad(1, walk.here)?;
+            enter_leaf(Class::Byte, big, walk, sig[0], behind, start)
+        }
+        Class::Struct => {
+            let start = pad(8, walk.here)?;
+            if walk.frames.len() < limit {
+                enter_struct(walk, behind, start)
+            } else {
+                Err(Fault::new(FaultKind::Depth, start.at))
+            }
+        }
+        class => enter_any(class, limit, big, walk, sig[0], behind),
+    }
 }
 
 /// The beginning of a dict entry, with the padding before it.
 #[tactic(auto, unfolding(crate::specs::Walk::enter_entry))]
-fn enter_entry<'a>(
-    limit: usize,
-    frames: &mut Frames<'a>,
-    sig: &'a [u8],
-    from: Cursor<'a>,
-) -> Result<Step<'a>, Fault>
+fn enter_entry<'a>(limit: usize, walk: &mut Walk<'a>, sig: &'a [u8]) -> Result<Part<'a>, Fault>
     requires { limit ≤ 64 }
-    ensures exact { MatchResult result
-        (λ x. enter_entry limit frames.old sig.now from.entry.at from.entry.rest.now ≡ Ok (piece x.0, state frames.new x.1.now x.2.at x.2.rest.now))
-        (λ e. enter_entry limit frames.old sig.now from.entry.at from.entry.rest.now ≡ Err e) }
+    ensures exact { Leads result walk.new (enter_entry limit walk.old.frames sig.now walk.old.here.at walk.old.here.rest.now) }
 {
-    let start = pad(8, from)?;
-    if frames.len() < limit {
-        frames.push(Frame::Key);
-        Ok((Part::Enter { kind: b'{' }, sig, start))
+    let start = pad(8, walk.here)?;
+    if walk.frames.len() < limit {
+        walk.frames.push(Frame::Key);
+        walk.types = sig;
+        walk.here = start;
+        Ok(Part::Enter { kind: b'{' })
     } else {
         Err(Fault::new(FaultKind::Depth, start.at))
     }
@@ -291,100 +367,78 @@ fn enter_entry<'a>(
 fn enter_item<'a>(
     limit: usize,
     big: bool,
-    frames: &mut Frames<'a>,
+    walk: &mut Walk<'a>,
     sig: &'a [u8],
-    from: Cursor<'a>,
-) -> Result<Step<'a>, Fault>
+) -> Result<Part<'a>, Fault>
     requires { limit ≤ 64 }
-    ensures exact { MatchResult result
-        (λ x. enter_item limit big frames.old sig.now from.entry.at from.entry.rest.now ≡ Ok (piece x.0, state frames.new x.1.now x.2.at x.2.rest.now))
-        (λ e. enter_item limit big frames.old sig.now from.entry.at from.entry.rest.now ≡ Err e) }
+    ensures exact { Leads result walk.new (enter_item limit big walk.old.frames sig.now walk.old.here.at walk.old.here.rest.now) }
 {
     if sig.is_empty() {
-        return Err(Fault::new(FaultKind::Text, from.at));
+        return Err(Fault::new(FaultKind::Text, walk.here.at));
     }
     if sig[0] == b'{' {
-        enter_entry(limit, frames, behind_first(sig), from)
+        enter_entry(limit, walk, behind_first(sig))
     } else {
-        enter(limit, big, frames, sig, from)
+        enter_short(limit, big, walk, sig)
     }
 }
 
 /// The next member of a structure, or its end.
 #[inline(always)]
 #[tactic(auto, using(crate::proofs::Steps::members_rules))]
-fn in_members<'a>(
-    limit: usize,
-    big: bool,
-    frames: &mut Frames<'a>,
-    sig: &'a [u8],
-    from: Cursor<'a>,
-) -> Result<Step<'a>, Fault>
+fn in_members<'a>(limit: usize, big: bool, walk: &mut Walk<'a>) -> Result<Part<'a>, Fault>
     requires limit { limit ≤ 64 }
-    requires open { Some opened_part.Members ≡ innermost frames.old }
-    ensures exact { MatchResult result
-        (λ x. in_members limit big (outer frames.old) sig.now from.entry.at from.entry.rest.now ≡ Ok (piece x.0, state frames.new x.1.now x.2.at x.2.rest.now))
-        (λ e. in_members limit big (outer frames.old) sig.now from.entry.at from.entry.rest.now ≡ Err e) }
+    requires open { Some opened_part.Members ≡ innermost walk.old.frames }
+    ensures exact { Leads result walk.new (in_members limit big (outer walk.old.frames) walk.old.types.now walk.old.here.at walk.old.here.rest.now) }
 {
+    let sig = walk.types;
     if sig.is_empty() {
-        return Err(Fault::new(FaultKind::Text, from.at));
+        return Err(Fault::new(FaultKind::Text, walk.here.at));
     }
     if sig[0] == b')' {
-        frames.pop();
-        resumed(frames, Part::Leave { kind: b'(' }, behind_first(sig), from)
+        walk.frames.pop();
+        let here = walk.here;
+        resumed(walk, Part::Leave { kind: b'(' }, behind_first(sig), here)
     } else {
-        enter(limit, big, frames, sig, from)
+        enter_short(limit, big, walk, sig)
     }
 }
 
 /// The key of a dict entry, which has a basic type.
-#[inline(always)]
 #[tactic(auto, using(crate::proofs::Steps::key_rules))]
-fn in_key<'a>(
-    limit: usize,
-    big: bool,
-    frames: &mut Frames<'a>,
-    sig: &'a [u8],
-    from: Cursor<'a>,
-) -> Result<Step<'a>, Fault>
+fn in_key<'a>(limit: usize, big: bool, walk: &mut Walk<'a>) -> Result<Part<'a>, Fault>
     requires limit { limit ≤ 64 }
-    requires open { Some opened_part.Key ≡ innermost frames.old }
-    ensures exact { MatchResult result
-        (λ x. in_key limit big (outer frames.old) sig.now from.entry.at from.entry.rest.now ≡ Ok (piece x.0, state frames.new x.1.now x.2.at x.2.rest.now))
-        (λ e. in_key limit big (outer frames.old) sig.now from.entry.at from.entry.rest.now ≡ Err e) }
+    requires open { Some opened_part.Key ≡ innermost walk.old.frames }
+    ensures exact { Leads result walk.new (in_key limit big (outer walk.old.frames) walk.old.types.now walk.old.here.at walk.old.here.rest.now) }
 {
+    let sig = walk.types;
     if sig.is_empty() {
-        return Err(Fault::new(FaultKind::Text, from.at));
+        return Err(Fault::new(FaultKind::Text, walk.here.at));
     }
     if Class::of(sig[0]).is_basic() {
-        frames.pop();
-        frames.push(Frame::Value);
-        enter(limit, big, frames, sig, from)
+        walk.frames.pop();
+        walk.frames.push(Frame::Value);
+        enter(limit, big, walk, sig)
     } else {
-        Err(Fault::new(FaultKind::Text, from.at))
+        Err(Fault::new(FaultKind::Text, walk.here.at))
     }
 }
 
 /// The end of a dict entry.
-#[inline(always)]
 #[tactic(auto, using(crate::proofs::Steps::closing_rules))]
-fn in_closing<'a>(
-    frames: &mut Frames<'a>,
-    sig: &'a [u8],
-    from: Cursor<'a>,
-) -> Result<Step<'a>, Fault>
-    ensures exact { MatchResult result
-        (λ x. in_closing (outer frames.old) sig.now from.entry.at from.entry.rest.now ≡ Ok (piece x.0, state frames.new x.1.now x.2.at x.2.rest.now))
-        (λ e. in_closing (outer frames.old) sig.now from.entry.at from.entry.rest.now ≡ Err e) }
+fn in_closing<'a>(walk: &mut Walk<'a>) -> Result<Part<'a>, Fault>
+    ensures exact { Leads result walk.new (in_closing (outer walk.old.frames) walk.old.types.now walk.old.here.at walk.old.here.rest.now) }
 {
+    let sig = walk.types;
     if sig.is_empty() {
-        return Err(Fault::new(FaultKind::Text, from.at));
+        return Err(Fault::new(FaultKind::Text, walk.here.at));
     }
     if sig[0] == b'}' {
-        frames.pop();
-        resumed(frames, Part::Leave { kind: b'{' }, behind_first(sig), from)
+        walk.frames.pop();
+        let here = walk.here;
+        resumed(walk, Part::Leave { kind: b'{' }, behind_first(sig), here)
     } else {
-        Err(Fault::new(FaultKind::Text, from.at))
+        Err(Fault::new(FaultKind::Text, walk.here.at))
     }
 }
 
@@ -394,51 +448,34 @@ fn in_closing<'a>(
 fn in_items<'a>(
     limit: usize,
     big: bool,
-    frames: &mut Frames<'a>,
+    walk: &mut Walk<'a>,
     array: Array<'a>,
-    sig: &'a [u8],
-    from: Cursor<'a>,
-) -> Result<Step<'a>, Fault>
+) -> Result<Part<'a>, Fault>
     requires limit { limit ≤ 64 }
-    requires open { Some (opened_part.Items array.item.now array.types.now array.behind.at array.behind.rest.now) ≡ innermost frames.old }
-    ensures exact { MatchResult result
-        (λ x. in_items limit big (outer frames.old) array.entry.item.now array.entry.types.now array.entry.behind.at array.entry.behind.rest.now sig.now from.entry.at from.entry.rest.now ≡ Ok (piece x.0, state frames.new x.1.now x.2.at x.2.rest.now))
-        (λ e. in_items limit big (outer frames.old) array.entry.item.now array.entry.types.now array.entry.behind.at array.entry.behind.rest.now sig.now from.entry.at from.entry.rest.now ≡ Err e) }
+    requires open { Some (opened_part.Items array.item.now array.types.now array.behind.at array.behind.rest.now) ≡ innermost walk.old.frames }
+    ensures exact { Leads result walk.new (in_items limit big (outer walk.old.frames) array.entry.item.now array.entry.types.now array.entry.behind.at array.entry.behind.rest.now walk.old.types.now walk.old.here.at walk.old.here.rest.now) }
 {
-    if sig.is_empty() {
-        if from.rest.is_empty() {
-            frames.pop();
-            resumed(
-                frames,
-                Part::Leave { kind: b'a' },
-                array.types,
-                array.behind,
-            )
-        } else {
-            enter_item(limit, big, frames, array.item, from)
-        }
+    if !walk.types.is_empty() {
+        return Err(Fault::new(FaultKind::Text, walk.here.at));
+    }
+    if walk.here.rest.is_empty() {
+        walk.frames.pop();
+        resumed(walk, Part::Leave { kind: b'a' }, array.types, array.behind)
     } else {
-        Err(Fault::new(FaultKind::Text, from.at))
+        enter_item(limit, big, walk, array.item)
     }
 }
 
 /// The next part.
 #[inline(always)]
 #[tactic(auto, using(crate::proofs::Steps::next_rules))]
-fn next_in<'a>(
-    limit: usize,
-    big: bool,
-    frames: &mut Frames<'a>,
-    sig: &'a [u8],
-    from: Cursor<'a>,
-) -> Result<Step<'a>, Fault>
+pub fn next_part<'a>(limit: usize, big: bool, walk: &mut Walk<'a>) -> Result<Part<'a>, Fault>
     requires { limit ≤ 64 }
-    ensures exact { MatchResult result
-        (λ x. next_in limit big frames.old sig.now from.entry.at from.entry.rest.now ≡ Ok (piece x.0, state frames.new x.1.now x.2.at x.2.rest.now))
-        (λ e. next_in limit big frames.old sig.now from.entry.at from.entry.rest.now ≡ Err e) }
+    ensures exact { Leads result walk.new (next_in limit big walk.old.frames walk.old.types.now walk.old.here.at walk.old.here.rest.now) }
 {
-    match frames.top() {
-        None => enter(limit, big, frames, sig, from),
+    let sig = walk.types;
+    match walk.frames.top() {
+        None => enter(limit, big, walk, sig),
         Some(frame) => match frame {
             Frame::Items {
                 item,
@@ -455,91 +492,18 @@ fn next_in<'a>(
                     types,
                     behind,
                 };
-                in_items(limit, big, frames, array, sig, from)
+                in_items(limit, big, walk, array)
             }
-            Frame::Members => in_members(limit, big, frames, sig, from),
-            Frame::Key => in_key(limit, big, frames, sig, from),
+            Frame::Members => in_members(limit, big, walk),
+            Frame::Key => in_key(limit, big, walk),
             Frame::Value => {
-                frames.pop();
-                frames.push(Frame::Closing);
-                enter(limit, big, frames, sig, from)
+                walk.frames.pop();
+                walk.frames.push(Frame::Closing);
+                enter(limit, big, walk, sig)
             }
-            Frame::Closing => in_closing(frames, sig, from),
-            Frame::Inner { .. } => enter(limit, big, frames, sig, from),
+            Frame::Closing => in_closing(walk),
+            Frame::Inner { .. } => enter(limit, big, walk, sig),
         },
-    }
-}
-
-/// A byte, the types that are left behind it, and the place behind it.
-#[inline(always)]
-fn byte_step<'a>(left: &'a [u8], from: Cursor<'a>) -> Step<'a>
-    requires { 1 ≤ length from.rest.now }
-    ensures part { piece result.0 ≡ part.Number 121 (slice_index from.entry.rest.now 0) }
-    ensures left { result.1.now ≡ left.now }
-    ensures at { result.2.at ≡ from.entry.at + 1 }
-    ensures rest { result.2.rest.now ≡ drop 1 from.entry.rest.now }
-{
-    let value = u64::from(from.rest[0]);
-    (Part::Number { kind: b'y', value }, left, from.ahead(1))
-}
-
-/// The next part where it is a byte in an array or in a structure, of which a body can have most.
-#[inline(always)]
-#[tactic(auto, using(crate::proofs::Bytes::byte_rules))]
-fn next_byte<'a>(
-    limit: usize,
-    big: bool,
-    frames: &Frames<'a>,
-    sig: &'a [u8],
-    from: Cursor<'a>,
-) -> Option<Step<'a>>
-    ensures exact { IfSome result (λ x. next_in limit big frames.now sig.now from.entry.at from.entry.rest.now ≡ Ok (piece x.0, state frames.now x.1.now x.2.at x.2.rest.now)) }
-{
-    if from.rest.is_empty() {
-        return None;
-    }
-    match frames.top() {
-        None => None,
-        Some(frame) => match frame {
-            Frame::Items { item, .. } => {
-                if sig.is_empty() && item.len() == 1 && item[0] == b'y' {
-                    Some(byte_step(sig, from))
-                } else {
-                    None
-                }
-            }
-            Frame::Members => {
-                if !sig.is_empty() && sig[0] == b'y' {
-                    Some(byte_step(behind_first(sig), from))
-                } else {
-                    None
-                }
-            }
-            Frame::Key => None,
-            Frame::Value => None,
-            Frame::Closing => None,
-            Frame::Inner { .. } => None,
-        },
-    }
-}
-
-/// The next part, found in short where it is a byte.
-#[inline(always)]
-pub fn next_part<'a>(
-    limit: usize,
-    big: bool,
-    frames: &mut Frames<'a>,
-    sig: &'a [u8],
-    from: Cursor<'a>,
-) -> Result<Step<'a>, Fault>
-    requires { limit ≤ 64 }
-    ensures exact { MatchResult result
-        (λ x. next_in limit big frames.old sig.now from.entry.at from.entry.rest.now ≡ Ok (piece x.0, state frames.new x.1.now x.2.at x.2.rest.now))
-        (λ e. next_in limit big frames.old sig.now from.entry.at from.entry.rest.now ≡ Err e) }
-{
-    match next_byte(limit, big, frames, sig, from) {
-        Some(step) => Ok(step),
-        None => next_in(limit, big, frames, sig, from),
     }
 }
 
@@ -547,28 +511,26 @@ pub fn next_part<'a>(
 const MOST_PARTS: usize = 4294967296;
 
 /// How many parts the values of a signature have, inside which at most `limit` containers stand,
-/// and what follows them.
+/// and what follows them. Nothing of the walk before counts.
 #[tactic(auto, using(crate::proofs::Loops::walk_rules))]
 pub fn values_at<'a>(
     limit: usize,
     big: bool,
-    frames: &mut Frames<'a>,
+    walk: &mut Walk<'a>,
     signature: &'a [u8],
     from: Cursor<'a>,
 ) -> Result<(usize, Cursor<'a>), Fault>
     requires { limit ≤ 64 }
     ensures exact { Gives (λ x. walked x.0 (spot x.1)) result (values_at limit big signature.now from.entry.at from.entry.rest.now) }
 {
-    frames.clear();
-    let mut types = signature;
-    let mut here = from;
+    walk.frames.clear();
+    walk.types = signature;
+    walk.here = from;
     for i in 0..MOST_PARTS {
-        if frames.len() == 0 && types.is_empty() {
-            return Ok((i, here));
+        if walk.frames.len() == 0 && walk.types.is_empty() {
+            return Ok((i, walk.here));
         }
-        let (_, left, after) = next_part(limit, big, frames, types, here)?;
-        types = left;
-        here = after;
+        let _part = next_part(limit, big, walk)?;
     }
-    Err(Fault::new(FaultKind::Length, here.at))
+    Err(Fault::new(FaultKind::Length, walk.here.at))
 }
