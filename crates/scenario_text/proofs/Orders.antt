@@ -20,7 +20,7 @@ use Rattle.scenario_text.specs.DraftLines.{draft_line}
 use Rattle.scenario_text.specs.CallerLines.{serial_event, call_event, announce_call, options_in, check_call, check_event, text_call, subject_call, register_call, unregister_call, respond_call, caller_line}
 use Rattle.scenario_text.specs.Lines.{first_word_of, line_of, line_from, step_of_words, is_blank, step_of}
 use Rattle.scenario_text.specs.Order.{Faults, is_number, is_fault, kind_of_faults, behind_call, draft_faults, caller_faults, faults_of, count_or_kind, word_or_kind, kind_of_words, line_kind}
-use Rattle.scenario_text.proofs.WordFaults.{IsOfWord, number, value, OnlyNumber, OnlyValue, OnlyOfWord, value_of_word, number_only, caller_only, serial_only, implicit_only, optional_implicit_only, some_value_only, text_only, id_only, local_only, active_only, session_only, texts_only, gids_only, subject_only, identity_only, options_only}
+use Rattle.scenario_text.proofs.WordFaults.{IsOfWord, number, value, OnlyNumber, OnlyValue, OnlyOfWord, value_of_word, number_only, number_32_only, number_64_only, caller_only, serial_only, implicit_only, optional_implicit_only, some_value_only, text_only, id_only, local_only, active_only, session_only, texts_only, gids_only, subject_only, identity_only, options_only}
 
 -- no word among these is a faulty number
 record NoNumber (faults : Faults) : Type 0 where
@@ -143,7 +143,7 @@ admins_order (a ∷ b ∷ more) = refl
 
 user_order : (args : List (List ℕ)) → IsDraftKind draft.User args
 user_order (uid ∷ name ∷ gids ∷ []) =
-    (number_first (number_32_in uid) _ (number_only _ uid)
+    (number_first (number_32_in uid) _ (number_32_only uid)
     (λ u. swapped _ (fault_in (text_in name)) (fault_in (gids_in gids)) [] (number_first (gids_in gids) _ (gids_only gids)
     (λ gs. then_value (text_in name) _ (text_only name) no_words (λ n. no_fault _))))).same
 user_order [] = refl
@@ -153,7 +153,7 @@ user_order (a ∷ b ∷ c ∷ d ∷ more) = refl
 
 group_order : (args : List (List ℕ)) → IsDraftKind draft.Group args
 group_order (gid ∷ name ∷ []) =
-    (number_first (number_32_in gid) _ (number_only _ gid) (λ g. then_value (text_in name) _ (text_only name) no_words (λ n. no_fault _))).same
+    (number_first (number_32_in gid) _ (number_32_only gid) (λ g. then_value (text_in name) _ (text_only name) no_words (λ n. no_fault _))).same
 group_order [] = refl
 group_order (a ∷ []) = refl
 group_order (a ∷ b ∷ c ∷ more) = refl
@@ -161,7 +161,7 @@ group_order (a ∷ b ∷ c ∷ more) = refl
 session_order : (args : List (List ℕ)) → IsDraftKind draft.Session args
 session_order (id ∷ uid ∷ local ∷ active ∷ []) =
     let last = no_number (active_in active) (active_only active) no_words in
-    (swapped _ (fault_in (text_in id)) (fault_in (number_32_in uid)) _ (number_first (number_32_in uid) _ (number_only _ uid)
+    (swapped _ (fault_in (text_in id)) (fault_in (number_32_in uid)) _ (number_first (number_32_in uid) _ (number_32_only uid)
     (λ u. then_value (text_in id) _ (text_only id) (no_number (local_in local) (local_only local) last)
     (λ i. then_value (local_in local) _ (local_only local) last
     (λ l. then_value (active_in active) _ (active_only active) no_words (λ a. no_fault _)))))).same
@@ -173,9 +173,9 @@ session_order (a ∷ b ∷ c ∷ d ∷ e ∷ more) = refl
 
 process_order : (args : List (List ℕ)) → IsDraftKind draft.Process args
 process_order (pid ∷ start ∷ uid ∷ session ∷ []) =
-    (number_first (number_32_in pid) _ (number_only _ pid)
-    (λ p. number_first (number_64_in start) _ (number_only _ start)
-    (λ s. number_first (number_32_in uid) _ (number_only _ uid)
+    (number_first (number_32_in pid) _ (number_32_only pid)
+    (λ p. number_first (number_64_in start) _ (number_64_only start)
+    (λ s. number_first (number_32_in uid) _ (number_32_only uid)
     (λ u. then_value (session_in session) _ (session_only session) no_words (λ n. no_fault _))))).same
 process_order [] = refl
 process_order (a ∷ []) = refl
@@ -185,7 +185,7 @@ process_order (a ∷ b ∷ c ∷ d ∷ e ∷ more) = refl
 
 gone_process_order : (args : List (List ℕ)) → IsDraftKind draft.GoneProcess args
 gone_process_order (pid ∷ start ∷ []) =
-    (number_first (number_32_in pid) _ (number_only _ pid) (λ p. number_first (number_64_in start) _ (number_only _ start) (λ s. no_fault _))).same
+    (number_first (number_32_in pid) _ (number_32_only pid) (λ p. number_first (number_64_in start) _ (number_64_only start) (λ s. no_fault _))).same
 gone_process_order [] = refl
 gone_process_order (a ∷ []) = refl
 gone_process_order (a ∷ b ∷ c ∷ more) = refl
@@ -240,7 +240,7 @@ replied caller serial event =
 
 peer_order : (args : List (List ℕ)) → IsCallerKind caller_word.Peer args
 peer_order (caller ∷ uid ∷ []) =
-    (number_first (caller_in caller) _ (caller_only caller) (λ c. number_first (number_32_in uid) _ (number_only _ uid) (λ u. no_fault _))).same
+    (number_first (caller_in caller) _ (caller_only caller) (λ c. number_first (number_32_in uid) _ (number_32_only uid) (λ u. no_fault _))).same
 peer_order [] = refl
 peer_order (a ∷ []) = refl
 peer_order (a ∷ b ∷ c ∷ more) = refl
@@ -253,7 +253,7 @@ depart_order (a ∷ b ∷ more) = refl
 announce_order : (args : List (List ℕ)) → IsCallerKind caller_word.Announce args
 announce_order (caller ∷ serial ∷ pid ∷ start ∷ []) =
     called caller serial (announce_call pid start)
-    (number_first (number_32_in pid) _ (number_only _ pid) (λ p. number_first (number_64_in start) _ (number_only _ start) (λ s. no_fault _)))
+    (number_first (number_32_in pid) _ (number_32_only pid) (λ p. number_first (number_64_in start) _ (number_64_only start) (λ s. no_fault _)))
 announce_order [] = refl
 announce_order (a ∷ []) = refl
 announce_order (a ∷ b ∷ []) = refl

@@ -71,13 +71,23 @@ only_positive r only =
 pub number_only : (greatest : ℕ) (word : List ℕ) → OnlyNumber (number_in greatest word)
 number_only greatest word = only_or kind.Number (decimal_up_to greatest word)
 
+pub number_32_only : (word : List ℕ) → OnlyNumber (number_32_in word)
+unfolding number_32_in
+number_32_only word = number_only _ word
+
+pub number_64_only : (word : List ℕ) → OnlyNumber (number_64_in word)
+unfolding number_64_in
+number_64_only word = number_only _ word
+
 positive_only : (greatest : ℕ) (word : List ℕ) → OnlyNumber (positive_in greatest word)
 positive_only greatest word = only_positive (number_in greatest word) (number_only greatest word)
 
 pub caller_only : (word : List ℕ) → OnlyNumber (caller_in word)
+unfolding caller_in
 caller_only word = positive_only _ word
 
 pub serial_only : (word : List ℕ) → OnlyNumber (serial_in word)
+unfolding serial_in
 serial_only word = positive_only _ word
 
 -- a word that is out of its form
@@ -88,14 +98,17 @@ if_value : {A : Type 0} (b : Bool) (r : Result A LineKind) → OnlyValue r → O
 if_value b r only = only_if (λ k. k ≡ kind.Value) b r (Err kind.Value) only (out_of_form (Err kind.Value) refl)
 
 pub implicit_only : (word : List ℕ) → OnlyValue (implicit_in word)
+unfolding implicit_in
 implicit_only word = only_or kind.Value (implicit_of_word word)
 
 pub optional_implicit_only : (word : List ℕ) → OnlyValue (optional_implicit_in word)
+unfolding optional_implicit_in
 optional_implicit_only word =
     only_if (λ k. k ≡ kind.Value) _ (Ok None) _ (only_ok (λ k. k ≡ kind.Value) None)
     (only_bind (λ k. k ≡ kind.Value) (implicit_in word) _ (implicit_only word) (λ value. only_ok (λ k. k ≡ kind.Value) (Some value)))
 
 pub some_value_only : (any inactive active : List ℕ) → OnlyValue (some_value_in any inactive active)
+unfolding some_value_in
 some_value_only any inactive active =
     only_if (λ k. k ≡ kind.Value) _ (Err kind.Value) (Ok true) (out_of_form (Err kind.Value) refl) (only_ok (λ k. k ≡ kind.Value) true)
 
@@ -103,9 +116,11 @@ any_text_only : (word : List ℕ) → OnlyValue (any_text_in word)
 any_text_only word = if_value _ (Ok word) (only_ok (λ k. k ≡ kind.Value) word)
 
 pub text_only : (word : List ℕ) → OnlyValue (text_in word)
+unfolding text_in
 text_only word = only_if (λ k. k ≡ kind.Value) (length word == 0) (Err kind.Value) (any_text_in word) (out_of_form (Err kind.Value) refl) (any_text_only word)
 
 pub id_only : (word : List ℕ) → OnlyValue (id_in word)
+unfolding id_in
 id_only word = if_value _ (Ok word) (only_ok (λ k. k ≡ kind.Value) word)
 
 either_only : (b c : Bool) → OnlyValue (if b then Ok true else if c then Ok false else Err kind.Value)
@@ -114,12 +129,15 @@ either_only b c =
     (if_value c (Ok false) (only_ok (λ k. k ≡ kind.Value) false))
 
 pub local_only : (word : List ℕ) → OnlyValue (local_in word)
+unfolding local_in
 local_only word = either_only _ _
 
 pub active_only : (word : List ℕ) → OnlyValue (active_in word)
+unfolding active_in
 active_only word = either_only _ _
 
 pub session_only : (word : List ℕ) → OnlyValue (session_in word)
+unfolding session_in
 session_only word =
     only_if (λ k. k ≡ kind.Value) _ (Ok None) _ (only_ok (λ k. k ≡ kind.Value) None)
     (only_bind (λ k. k ≡ kind.Value) (text_in word) _ (text_only word) (λ id. only_ok (λ k. k ≡ kind.Value) (Some id)))
@@ -132,15 +150,15 @@ pub gids_only : (word : List ℕ) → OnlyNumber (gids_in word)
 unfolding gids_in
 gids_only word =
     only_if (λ k. k ≡ kind.Number) _ (Ok []) _ (only_ok (λ k. k ≡ kind.Number) [])
-    (only_each (λ k. k ≡ kind.Number) number_32_in (pieces_of 44 word) (number_only _))
+    (only_each (λ k. k ≡ kind.Number) number_32_in (pieces_of 44 word) number_32_only)
 
 if_of_word : {A : Type 0} (b : Bool) (r : Result A LineKind) → OnlyOfWord r → OnlyOfWord (if b then r else Err kind.Value)
 if_of_word b r only = only_if IsOfWord b r (Err kind.Value) only (only_err IsOfWord kind.Value (Err kind.Value) refl value)
 
 process_only : (pid start : List ℕ) → OnlyOfWord (process_subject pid start)
 process_only pid start =
-    only_bind IsOfWord (number_32_in pid) _ (number_of_word (number_32_in pid) (number_only _ pid))
-    (λ p. only_bind IsOfWord (number_64_in start) _ (number_of_word (number_64_in start) (number_only _ start)) (λ s. only_ok IsOfWord _))
+    only_bind IsOfWord (number_32_in pid) _ (number_of_word (number_32_in pid) (number_32_only pid))
+    (λ p. only_bind IsOfWord (number_64_in start) _ (number_of_word (number_64_in start) (number_64_only start)) (λ s. only_ok IsOfWord _))
 
 bus_only : (caller : List ℕ) → OnlyOfWord (bus_subject caller)
 bus_only caller = only_bind IsOfWord (caller_in caller) _ (number_of_word (caller_in caller) (caller_only caller)) (λ c. only_ok IsOfWord _)
@@ -164,7 +182,7 @@ identity_of_only : (parts : List (List ℕ)) → OnlyOfWord (identity_of_parts p
 identity_of_only [] = only_err IsOfWord kind.Value _ refl value
 identity_of_only (a ∷ []) = only_err IsOfWord kind.Value _ refl value
 identity_of_only (word ∷ uid ∷ []) =
-    if_of_word _ _ (only_bind IsOfWord (number_32_in uid) _ (number_of_word (number_32_in uid) (number_only _ uid)) (λ u. only_ok IsOfWord _))
+    if_of_word _ _ (only_bind IsOfWord (number_32_in uid) _ (number_of_word (number_32_in uid) (number_32_only uid)) (λ u. only_ok IsOfWord _))
 identity_of_only (a ∷ b ∷ c ∷ more) = only_err IsOfWord kind.Value _ refl value
 
 pub identity_only : (word : List ℕ) → OnlyOfWord (identity_in word)

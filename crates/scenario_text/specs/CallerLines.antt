@@ -163,15 +163,18 @@ return_line other = Err kind.Count
 abbrev pub error_named : List ℕ → ℕ → Event
 error_named name serial = event.AgentError serial name
 
+-- N S, to which an agent replies with the error of this name
+abbrev pub error_line : List ℕ → List (List ℕ) → Result Step LineKind
+error_line name (caller ∷ serial ∷ []) = serial_event caller serial (error_named name)
+error_line name other = Err kind.Count
+
 -- dismiss N S
 abbrev pub dismiss_line : List (List ℕ) → Result Step LineKind
-dismiss_line (caller ∷ serial ∷ []) = serial_event caller serial (error_named (codes "org.freedesktop.PolicyKit1.Error.Cancelled"))
-dismiss_line other = Err kind.Count
+dismiss_line args = error_line (codes "org.freedesktop.PolicyKit1.Error.Cancelled") args
 
 -- fail N S
 abbrev pub fail_line : List (List ℕ) → Result Step LineKind
-fail_line (caller ∷ serial ∷ []) = serial_event caller serial (error_named (codes "org.freedesktop.PolicyKit1.Error.Failed"))
-fail_line other = Err kind.Count
+fail_line args = error_line (codes "org.freedesktop.PolicyKit1.Error.Failed") args
 
 -- actions N S LOCALE
 abbrev pub actions_line : List (List ℕ) → Result Step LineKind

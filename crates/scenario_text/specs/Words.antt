@@ -16,11 +16,11 @@ abbrev pub number_in : ℕ → List ℕ → Result ℕ LineKind
 number_in greatest word = or_fault kind.Number (decimal_up_to greatest word)
 
 -- a number of 32 bits
-abbrev pub number_32_in : List ℕ → Result ℕ LineKind
+unfoldable pub number_32_in : List ℕ → Result ℕ LineKind
 number_32_in word = number_in (2 ^ 32 - 1) word
 
 -- a number of 64 bits
-abbrev pub number_64_in : List ℕ → Result ℕ LineKind
+unfoldable pub number_64_in : List ℕ → Result ℕ LineKind
 number_64_in word = number_in (2 ^ 64 - 1) word
 
 -- a number above 0
@@ -32,23 +32,23 @@ abbrev pub positive_in : ℕ → List ℕ → Result ℕ LineKind
 positive_in greatest word = number_in greatest word >>= positive
 
 -- the number of a connection
-abbrev pub caller_in : List ℕ → Result ℕ LineKind
+unfoldable pub caller_in : List ℕ → Result ℕ LineKind
 caller_in word = positive_in 1048575 word
 
 -- the serial of a message
-abbrev pub serial_in : List ℕ → Result ℕ LineKind
+unfoldable pub serial_in : List ℕ → Result ℕ LineKind
 serial_in word = positive_in (2 ^ 32 - 1) word
 
 -- an implicit value
-abbrev pub implicit_in : List ℕ → Result Implicit LineKind
+unfoldable pub implicit_in : List ℕ → Result Implicit LineKind
 implicit_in word = or_fault kind.Value (implicit_of_word word)
 
 -- an implicit value that is optional: `-` for none
-abbrev pub optional_implicit_in : List ℕ → Result (Option Implicit) LineKind
+unfoldable pub optional_implicit_in : List ℕ → Result (Option Implicit) LineKind
 optional_implicit_in word = if bytes_eq word (codes "-") then Ok None else implicit_in word >>= (λ value. Ok (Some value))
 
 -- whether one of three words stands for a value, so that not each of them is `-`
-abbrev pub some_value_in : List ℕ → List ℕ → List ℕ → Result Bool LineKind
+unfoldable pub some_value_in : List ℕ → List ℕ → List ℕ → Result Bool LineKind
 some_value_in any inactive active = if bytes_eq any (codes "-") && bytes_eq inactive (codes "-") && bytes_eq active (codes "-") then Err kind.Value else Ok true
 
 -- a text
@@ -56,11 +56,11 @@ abbrev pub any_text_in : List ℕ → Result (List ℕ) LineKind
 any_text_in word = if is_none (text_fault_of word) then Ok word else Err kind.Value
 
 -- a text that isn't empty
-abbrev pub text_in : List ℕ → Result (List ℕ) LineKind
+unfoldable pub text_in : List ℕ → Result (List ℕ) LineKind
 text_in word = if length word == 0 then Err kind.Value else any_text_in word
 
 -- an action id
-abbrev pub id_in : List ℕ → Result (List ℕ) LineKind
+unfoldable pub id_in : List ℕ → Result (List ℕ) LineKind
 id_in word = if is_none (text_fault_of word) && is_none (id_fault_of word) then Ok word else Err kind.Value
 
 -- true for the first of these words, false for the second
@@ -68,15 +68,15 @@ abbrev pub either_in : List ℕ → List ℕ → List ℕ → Result Bool LineKi
 either_in yes_word no_word word = if bytes_eq word yes_word then Ok true else if bytes_eq word no_word then Ok false else Err kind.Value
 
 -- whether a session is local
-abbrev pub local_in : List ℕ → Result Bool LineKind
+unfoldable pub local_in : List ℕ → Result Bool LineKind
 local_in word = either_in (codes "local") (codes "remote") word
 
 -- whether a session is active
-abbrev pub active_in : List ℕ → Result Bool LineKind
+unfoldable pub active_in : List ℕ → Result Bool LineKind
 active_in word = either_in (codes "active") (codes "idle") word
 
 -- the session of a process, or `-` for none
-abbrev pub session_in : List ℕ → Result (Option (List ℕ)) LineKind
+unfoldable pub session_in : List ℕ → Result (Option (List ℕ)) LineKind
 session_in word = if bytes_eq word (codes "-") then Ok None else text_in word >>= (λ id. Ok (Some id))
 
 -- each of the words

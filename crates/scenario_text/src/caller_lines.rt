@@ -1,9 +1,9 @@
 // The lines that make an event of a connection: a function for each word that they begin with.
-ghost use Rattle.std.specs.Prelude.{◌≡◌, ◌≤◌, false, [], ◌∷◌, map, length, IfOk};
+ghost use Rattle.std.specs.Prelude.{◌≡◌, false, map, IfOk};
 ghost use Rattle.pk_types.specs.Text.{IsText};
 ghost use Rattle.scenario_text.specs.Faults.{Gives};
 ghost use Rattle.scenario_text.specs.Runs.{IsRunnable};
-ghost use Rattle.scenario_text.specs.CallerLines.{serial_event, check_event, error_named, peer_line, depart_line, announce_line, check_line, cancel_line, register_line, unregister_line, respond_line, return_line, dismiss_line, fail_line, actions_line, grants_line, revoke_line, revoke_id_line, caller_line};
+ghost use Rattle.scenario_text.specs.CallerLines.{check_event, error_line, peer_line, depart_line, announce_line, check_line, cancel_line, register_line, unregister_line, respond_line, return_line, dismiss_line, fail_line, actions_line, grants_line, revoke_line, revoke_id_line, caller_line};
 
 use crate::check_options::CheckOptions;
 use crate::fault::LineKind;
@@ -29,23 +29,18 @@ fn called(caller: u32, serial: u32, call: Call) -> Step
     }
 }
 
-fn peer(caller: &[u8], uid: &[u8]) -> Result<Step, LineKind>
-    ensures value { Gives result (peer_line (caller.now ∷ uid.now ∷ [])) }
-    ensures runs { IfOk result IsRunnable }
-{
-    let caller = caller_word(caller)?;
-    let uid = number_32(uid)?;
-    let event = Event::Connect { uid };
-    Ok(Step::Act { caller, event })
-}
-
 /// `peer N UID`.
 fn peer_words(args: &[&[u8]]) -> Result<Step, LineKind>
     ensures value { Gives result (peer_line (map (λ word. word.now) args.now)) }
     ensures runs { IfOk result IsRunnable }
 {
     match args {
-        [caller, uid] => peer(caller, uid),
+        [caller, uid] => {
+            let caller = caller_word(caller)?;
+            let uid = number_32(uid)?;
+            let event = Event::Connect { uid };
+            Ok(Step::Act { caller, event })
+        }
         _ => Err(LineKind::Count),
     }
 }
@@ -65,24 +60,19 @@ fn depart_words(args: &[&[u8]]) -> Result<Step, LineKind>
     }
 }
 
-fn announce(caller: &[u8], serial: &[u8], pid: &[u8], start: &[u8]) -> Result<Step, LineKind>
-    ensures value { Gives result (announce_line (caller.now ∷ serial.now ∷ pid.now ∷ start.now ∷ [])) }
-    ensures runs { IfOk result IsRunnable }
-{
-    let caller = caller_word(caller)?;
-    let serial = serial_word(serial)?;
-    let pid = number_32(pid)?;
-    let start = number_64(start)?;
-    Ok(called(caller, serial, Call::Announce { pid, start }))
-}
-
 /// `announce N S PID START`.
 fn announce_words(args: &[&[u8]]) -> Result<Step, LineKind>
     ensures value { Gives result (announce_line (map (λ word. word.now) args.now)) }
     ensures runs { IfOk result IsRunnable }
 {
     match args {
-        [caller, serial, pid, start] => announce(caller, serial, pid, start),
+        [caller, serial, pid, start] => {
+            let caller = caller_word(caller)?;
+            let serial = serial_word(serial)?;
+            let pid = number_32(pid)?;
+            let start = number_64(start)?;
+            Ok(called(caller, serial, Call::Announce { pid, start }))
+        }
         _ => Err(LineKind::Count),
     }
 }
@@ -130,51 +120,20 @@ fn check_words(alloc: Global, args: &[&[u8]]) -> Result<Step, LineKind>
     }
 }
 
-fn cancel(alloc: Global, caller: &[u8], serial: &[u8], id: &[u8]) -> Result<Step, LineKind>
-    ensures value { Gives result (cancel_line (caller.now ∷ serial.now ∷ id.now ∷ [])) }
-    ensures runs { IfOk result IsRunnable }
-{
-    let caller = caller_word(caller)?;
-    let serial = serial_word(serial)?;
-    let cancel = text_word(alloc, id)?;
-    Ok(called(caller, serial, Call::Cancel { cancel }))
-}
-
 /// `cancel N S ID`.
 fn cancel_words(alloc: Global, args: &[&[u8]]) -> Result<Step, LineKind>
     ensures value { Gives result (cancel_line (map (λ word. word.now) args.now)) }
     ensures runs { IfOk result IsRunnable }
 {
     match args {
-        [caller, serial, id] => cancel(alloc, caller, serial, id),
+        [caller, serial, id] => {
+            let caller = caller_word(caller)?;
+            let serial = serial_word(serial)?;
+            let cancel = text_word(alloc, id)?;
+            Ok(called(caller, serial, Call::Cancel { cancel }))
+        }
         _ => Err(LineKind::Count),
     }
-}
-
-fn register(
-    alloc: Global,
-    caller: &[u8],
-    serial: &[u8],
-    subject: &[u8],
-    path: &[u8],
-) -> Result<Step, LineKind>
-    ensures value { Gives result (register_line (caller.now ∷ serial.now ∷ subject.now ∷ path.now ∷ [])) }
-    ensures runs { IfOk result IsRunnable }
-{
-    let caller = caller_word(caller)?;
-    let serial = serial_word(serial)?;
-    let subject = subject_word(alloc, subject)?;
-    let path = text_word(alloc, path)?;
-    let locale = known_text(alloc, b"C".as_slice())?;
-    Ok(called(
-        caller,
-        serial,
-        Call::Register {
-            subject,
-            locale,
-            path,
-        },
-    ))
 }
 
 /// `register N S SUBJECT PATH`.
@@ -183,26 +142,24 @@ fn register_words(alloc: Global, args: &[&[u8]]) -> Result<Step, LineKind>
     ensures runs { IfOk result IsRunnable }
 {
     match args {
-        [caller, serial, subject, path] => register(alloc, caller, serial, subject, path),
+        [caller, serial, subject, path] => {
+            let caller = caller_word(caller)?;
+            let serial = serial_word(serial)?;
+            let subject = subject_word(alloc, subject)?;
+            let path = text_word(alloc, path)?;
+            let locale = known_text(alloc, b"C".as_slice())?;
+            Ok(called(
+                caller,
+                serial,
+                Call::Register {
+                    subject,
+                    locale,
+                    path,
+                },
+            ))
+        }
         _ => Err(LineKind::Count),
     }
-}
-
-fn unregister(
-    alloc: Global,
-    caller: &[u8],
-    serial: &[u8],
-    subject: &[u8],
-    path: &[u8],
-) -> Result<Step, LineKind>
-    ensures value { Gives result (unregister_line (caller.now ∷ serial.now ∷ subject.now ∷ path.now ∷ [])) }
-    ensures runs { IfOk result IsRunnable }
-{
-    let caller = caller_word(caller)?;
-    let serial = serial_word(serial)?;
-    let subject = subject_word(alloc, subject)?;
-    let path = text_word(alloc, path)?;
-    Ok(called(caller, serial, Call::Unregister { subject, path }))
 }
 
 /// `unregister N S SUBJECT PATH`.
@@ -211,26 +168,15 @@ fn unregister_words(alloc: Global, args: &[&[u8]]) -> Result<Step, LineKind>
     ensures runs { IfOk result IsRunnable }
 {
     match args {
-        [caller, serial, subject, path] => unregister(alloc, caller, serial, subject, path),
+        [caller, serial, subject, path] => {
+            let caller = caller_word(caller)?;
+            let serial = serial_word(serial)?;
+            let subject = subject_word(alloc, subject)?;
+            let path = text_word(alloc, path)?;
+            Ok(called(caller, serial, Call::Unregister { subject, path }))
+        }
         _ => Err(LineKind::Count),
     }
-}
-
-fn respond(
-    alloc: Global,
-    caller: &[u8],
-    serial: &[u8],
-    cookie: &[u8],
-    identity: &[u8],
-) -> Result<Step, LineKind>
-    ensures value { Gives result (respond_line (caller.now ∷ serial.now ∷ cookie.now ∷ identity.now ∷ [])) }
-    ensures runs { IfOk result IsRunnable }
-{
-    let caller = caller_word(caller)?;
-    let serial = serial_word(serial)?;
-    let identity = identity_word(alloc, identity)?;
-    let cookie = text_word(alloc, cookie)?;
-    Ok(called(caller, serial, Call::Respond { cookie, identity }))
 }
 
 /// `respond N S COOKIE user:UID`.
@@ -239,19 +185,15 @@ fn respond_words(alloc: Global, args: &[&[u8]]) -> Result<Step, LineKind>
     ensures runs { IfOk result IsRunnable }
 {
     match args {
-        [caller, serial, cookie, identity] => respond(alloc, caller, serial, cookie, identity),
+        [caller, serial, cookie, identity] => {
+            let caller = caller_word(caller)?;
+            let serial = serial_word(serial)?;
+            let identity = identity_word(alloc, identity)?;
+            let cookie = text_word(alloc, cookie)?;
+            Ok(called(caller, serial, Call::Respond { cookie, identity }))
+        }
         _ => Err(LineKind::Count),
     }
-}
-
-fn returned(caller: &[u8], serial: &[u8]) -> Result<Step, LineKind>
-    ensures value { Gives result (return_line (caller.now ∷ serial.now ∷ [])) }
-    ensures runs { IfOk result IsRunnable }
-{
-    let caller = caller_word(caller)?;
-    let serial = serial_word(serial)?;
-    let event = Event::Returned { serial };
-    Ok(Step::Act { caller, event })
 }
 
 /// `return N S`.
@@ -260,29 +202,32 @@ fn returned_words(args: &[&[u8]]) -> Result<Step, LineKind>
     ensures runs { IfOk result IsRunnable }
 {
     match args {
-        [caller, serial] => returned(caller, serial),
+        [caller, serial] => {
+            let caller = caller_word(caller)?;
+            let serial = serial_word(serial)?;
+            let event = Event::Returned { serial };
+            Ok(Step::Act { caller, event })
+        }
         _ => Err(LineKind::Count),
     }
 }
 
-fn agent_error(alloc: Global, caller: &[u8], serial: &[u8], name: &[u8]) -> Result<Step, LineKind>
+/// `N S`: the agent replies with the error of this name.
+fn error_words(alloc: Global, args: &[&[u8]], name: &[u8]) -> Result<Step, LineKind>
     requires { IsText name.now }
-    ensures value { Gives result (serial_event caller.now serial.now (error_named name.now)) }
+    ensures value { Gives result (error_line name.now (map (λ word. word.now) args.now)) }
     ensures runs { IfOk result IsRunnable }
 {
-    let caller = caller_word(caller)?;
-    let serial = serial_word(serial)?;
-    let name = known_text(alloc, name)?;
-    let event = Event::AgentError { serial, name };
-    Ok(Step::Act { caller, event })
-}
-
-fn dismiss(alloc: Global, caller: &[u8], serial: &[u8]) -> Result<Step, LineKind>
-    ensures value { Gives result (dismiss_line (caller.now ∷ serial.now ∷ [])) }
-    ensures runs { IfOk result IsRunnable }
-{
-    let name = b"org.freedesktop.PolicyKit1.Error.Cancelled";
-    agent_error(alloc, caller, serial, name.as_slice())
+    match args {
+        [caller, serial] => {
+            let caller = caller_word(caller)?;
+            let serial = serial_word(serial)?;
+            let name = known_text(alloc, name)?;
+            let event = Event::AgentError { serial, name };
+            Ok(Step::Act { caller, event })
+        }
+        _ => Err(LineKind::Count),
+    }
 }
 
 /// `dismiss N S`.
@@ -290,18 +235,8 @@ fn dismiss_words(alloc: Global, args: &[&[u8]]) -> Result<Step, LineKind>
     ensures value { Gives result (dismiss_line (map (λ word. word.now) args.now)) }
     ensures runs { IfOk result IsRunnable }
 {
-    match args {
-        [caller, serial] => dismiss(alloc, caller, serial),
-        _ => Err(LineKind::Count),
-    }
-}
-
-fn fail(alloc: Global, caller: &[u8], serial: &[u8]) -> Result<Step, LineKind>
-    ensures value { Gives result (fail_line (caller.now ∷ serial.now ∷ [])) }
-    ensures runs { IfOk result IsRunnable }
-{
-    let name = b"org.freedesktop.PolicyKit1.Error.Failed";
-    agent_error(alloc, caller, serial, name.as_slice())
+    let name = b"org.freedesktop.PolicyKit1.Error.Cancelled";
+    error_words(alloc, args, name.as_slice())
 }
 
 /// `fail N S`.
@@ -309,20 +244,8 @@ fn fail_words(alloc: Global, args: &[&[u8]]) -> Result<Step, LineKind>
     ensures value { Gives result (fail_line (map (λ word. word.now) args.now)) }
     ensures runs { IfOk result IsRunnable }
 {
-    match args {
-        [caller, serial] => fail(alloc, caller, serial),
-        _ => Err(LineKind::Count),
-    }
-}
-
-fn actions(alloc: Global, caller: &[u8], serial: &[u8], locale: &[u8]) -> Result<Step, LineKind>
-    ensures value { Gives result (actions_line (caller.now ∷ serial.now ∷ locale.now ∷ [])) }
-    ensures runs { IfOk result IsRunnable }
-{
-    let caller = caller_word(caller)?;
-    let serial = serial_word(serial)?;
-    let locale = text_word(alloc, locale)?;
-    Ok(called(caller, serial, Call::EnumerateActions { locale }))
+    let name = b"org.freedesktop.PolicyKit1.Error.Failed";
+    error_words(alloc, args, name.as_slice())
 }
 
 /// `actions N S LOCALE`.
@@ -331,19 +254,14 @@ fn actions_words(alloc: Global, args: &[&[u8]]) -> Result<Step, LineKind>
     ensures runs { IfOk result IsRunnable }
 {
     match args {
-        [caller, serial, locale] => actions(alloc, caller, serial, locale),
+        [caller, serial, locale] => {
+            let caller = caller_word(caller)?;
+            let serial = serial_word(serial)?;
+            let locale = text_word(alloc, locale)?;
+            Ok(called(caller, serial, Call::EnumerateActions { locale }))
+        }
         _ => Err(LineKind::Count),
     }
-}
-
-fn grants(alloc: Global, caller: &[u8], serial: &[u8], subject: &[u8]) -> Result<Step, LineKind>
-    ensures value { Gives result (grants_line (caller.now ∷ serial.now ∷ subject.now ∷ [])) }
-    ensures runs { IfOk result IsRunnable }
-{
-    let caller = caller_word(caller)?;
-    let serial = serial_word(serial)?;
-    let subject = subject_word(alloc, subject)?;
-    Ok(called(caller, serial, Call::EnumerateGrants { subject }))
 }
 
 /// `grants N S SUBJECT`.
@@ -352,19 +270,14 @@ fn grants_words(alloc: Global, args: &[&[u8]]) -> Result<Step, LineKind>
     ensures runs { IfOk result IsRunnable }
 {
     match args {
-        [caller, serial, subject] => grants(alloc, caller, serial, subject),
+        [caller, serial, subject] => {
+            let caller = caller_word(caller)?;
+            let serial = serial_word(serial)?;
+            let subject = subject_word(alloc, subject)?;
+            Ok(called(caller, serial, Call::EnumerateGrants { subject }))
+        }
         _ => Err(LineKind::Count),
     }
-}
-
-fn revoke(alloc: Global, caller: &[u8], serial: &[u8], subject: &[u8]) -> Result<Step, LineKind>
-    ensures value { Gives result (revoke_line (caller.now ∷ serial.now ∷ subject.now ∷ [])) }
-    ensures runs { IfOk result IsRunnable }
-{
-    let caller = caller_word(caller)?;
-    let serial = serial_word(serial)?;
-    let subject = subject_word(alloc, subject)?;
-    Ok(called(caller, serial, Call::RevokeAll { subject }))
 }
 
 /// `revoke N S SUBJECT`.
@@ -373,19 +286,14 @@ fn revoke_words(alloc: Global, args: &[&[u8]]) -> Result<Step, LineKind>
     ensures runs { IfOk result IsRunnable }
 {
     match args {
-        [caller, serial, subject] => revoke(alloc, caller, serial, subject),
+        [caller, serial, subject] => {
+            let caller = caller_word(caller)?;
+            let serial = serial_word(serial)?;
+            let subject = subject_word(alloc, subject)?;
+            Ok(called(caller, serial, Call::RevokeAll { subject }))
+        }
         _ => Err(LineKind::Count),
     }
-}
-
-fn revoke_id(alloc: Global, caller: &[u8], serial: &[u8], id: &[u8]) -> Result<Step, LineKind>
-    ensures value { Gives result (revoke_id_line (caller.now ∷ serial.now ∷ id.now ∷ [])) }
-    ensures runs { IfOk result IsRunnable }
-{
-    let caller = caller_word(caller)?;
-    let serial = serial_word(serial)?;
-    let id = text_word(alloc, id)?;
-    Ok(called(caller, serial, Call::RevokeOne { id }))
 }
 
 /// `revoke-id N S ID`.
@@ -394,7 +302,12 @@ fn revoke_id_words(alloc: Global, args: &[&[u8]]) -> Result<Step, LineKind>
     ensures runs { IfOk result IsRunnable }
 {
     match args {
-        [caller, serial, id] => revoke_id(alloc, caller, serial, id),
+        [caller, serial, id] => {
+            let caller = caller_word(caller)?;
+            let serial = serial_word(serial)?;
+            let id = text_word(alloc, id)?;
+            Ok(called(caller, serial, Call::RevokeOne { id }))
+        }
         _ => Err(LineKind::Count),
     }
 }

@@ -64,33 +64,19 @@ fn action_words(alloc: Global, args: &[&[u8]]) -> Result<Step, LineKind>
     }
 }
 
-fn imply(alloc: Global, id: &[u8], implied: &[u8]) -> Result<Step, LineKind>
-    ensures value { Gives result (imply_line (id.now ∷ implied.now ∷ [])) }
-    ensures runs { IfOk result IsRunnable }
-{
-    let id = id_word(alloc, id)?;
-    let implied = id_word(alloc, implied)?;
-    Ok(Step::Imply { id, implied })
-}
-
 /// `imply ID ID`.
 fn imply_words(alloc: Global, args: &[&[u8]]) -> Result<Step, LineKind>
     ensures value { Gives result (imply_line (map (λ word. word.now) args.now)) }
     ensures runs { IfOk result IsRunnable }
 {
     match args {
-        [id, implied] => imply(alloc, id, implied),
+        [id, implied] => {
+            let id = id_word(alloc, id)?;
+            let implied = id_word(alloc, implied)?;
+            Ok(Step::Imply { id, implied })
+        }
         _ => Err(LineKind::Count),
     }
-}
-
-fn owner(alloc: Global, id: &[u8], identities: &[u8]) -> Result<Step, LineKind>
-    ensures value { Gives result (owner_line (id.now ∷ identities.now ∷ [])) }
-    ensures runs { IfOk result IsRunnable }
-{
-    let id = id_word(alloc, id)?;
-    let identities = texts_word(alloc, identities)?;
-    Ok(Step::Owner { id, identities })
 }
 
 /// `owner ID IDENTITIES`.
@@ -99,7 +85,11 @@ fn owner_words(alloc: Global, args: &[&[u8]]) -> Result<Step, LineKind>
     ensures runs { IfOk result IsRunnable }
 {
     match args {
-        [id, identities] => owner(alloc, id, identities),
+        [id, identities] => {
+            let id = id_word(alloc, id)?;
+            let identities = texts_word(alloc, identities)?;
+            Ok(Step::Owner { id, identities })
+        }
         _ => Err(LineKind::Count),
     }
 }
@@ -157,34 +147,20 @@ fn admins_words(alloc: Global, args: &[&[u8]]) -> Result<Step, LineKind>
     }
 }
 
-fn user(alloc: Global, uid: &[u8], name: &[u8], gids: &[u8]) -> Result<Step, LineKind>
-    ensures value { Gives result (user_line (uid.now ∷ name.now ∷ gids.now ∷ [])) }
-    ensures runs { IfOk result IsRunnable }
-{
-    let uid = number_32(uid)?;
-    let gids = gids_word(alloc, gids)?;
-    let name = text_word(alloc, name)?;
-    Ok(Step::User { uid, name, gids })
-}
-
 /// `user UID NAME GIDS`.
 fn user_words(alloc: Global, args: &[&[u8]]) -> Result<Step, LineKind>
     ensures value { Gives result (user_line (map (λ word. word.now) args.now)) }
     ensures runs { IfOk result IsRunnable }
 {
     match args {
-        [uid, name, gids] => user(alloc, uid, name, gids),
+        [uid, name, gids] => {
+            let uid = number_32(uid)?;
+            let gids = gids_word(alloc, gids)?;
+            let name = text_word(alloc, name)?;
+            Ok(Step::User { uid, name, gids })
+        }
         _ => Err(LineKind::Count),
     }
-}
-
-fn group(alloc: Global, gid: &[u8], name: &[u8]) -> Result<Step, LineKind>
-    ensures value { Gives result (group_line (gid.now ∷ name.now ∷ [])) }
-    ensures runs { IfOk result IsRunnable }
-{
-    let gid = number_32(gid)?;
-    let name = text_word(alloc, name)?;
-    Ok(Step::Group { gid, name })
 }
 
 /// `group GID NAME`.
@@ -193,7 +169,11 @@ fn group_words(alloc: Global, args: &[&[u8]]) -> Result<Step, LineKind>
     ensures runs { IfOk result IsRunnable }
 {
     match args {
-        [gid, name] => group(alloc, gid, name),
+        [gid, name] => {
+            let gid = number_32(gid)?;
+            let name = text_word(alloc, name)?;
+            Ok(Step::Group { gid, name })
+        }
         _ => Err(LineKind::Count),
     }
 }
@@ -233,48 +213,28 @@ fn session_words(alloc: Global, args: &[&[u8]]) -> Result<Step, LineKind>
     }
 }
 
-fn process(
-    alloc: Global,
-    pid: &[u8],
-    start: &[u8],
-    uid: &[u8],
-    session: &[u8],
-) -> Result<Step, LineKind>
-    ensures value { Gives result (process_line (pid.now ∷ start.now ∷ uid.now ∷ session.now ∷ [])) }
-    ensures runs { IfOk result IsRunnable }
-{
-    let pid = number_32(pid)?;
-    let start = number_64(start)?;
-    let uid = number_32(uid)?;
-    let session = session_word(alloc, session)?;
-    Ok(Step::Process {
-        row: Process {
-            pid,
-            start,
-            uid,
-            session,
-        },
-    })
-}
-
 /// `process PID START UID SESSION`.
 fn process_words(alloc: Global, args: &[&[u8]]) -> Result<Step, LineKind>
     ensures value { Gives result (process_line (map (λ word. word.now) args.now)) }
     ensures runs { IfOk result IsRunnable }
 {
     match args {
-        [pid, start, uid, session] => process(alloc, pid, start, uid, session),
+        [pid, start, uid, session] => {
+            let pid = number_32(pid)?;
+            let start = number_64(start)?;
+            let uid = number_32(uid)?;
+            let session = session_word(alloc, session)?;
+            Ok(Step::Process {
+                row: Process {
+                    pid,
+                    start,
+                    uid,
+                    session,
+                },
+            })
+        }
         _ => Err(LineKind::Count),
     }
-}
-
-fn gone_process(pid: &[u8], start: &[u8]) -> Result<Step, LineKind>
-    ensures value { Gives result (gone_process_line (pid.now ∷ start.now ∷ [])) }
-    ensures runs { IfOk result IsRunnable }
-{
-    let pid = number_32(pid)?;
-    let start = number_64(start)?;
-    Ok(Step::GoneProcess { pid, start })
 }
 
 /// `gone-process PID START`.
@@ -283,7 +243,11 @@ fn gone_process_words(args: &[&[u8]]) -> Result<Step, LineKind>
     ensures runs { IfOk result IsRunnable }
 {
     match args {
-        [pid, start] => gone_process(pid, start),
+        [pid, start] => {
+            let pid = number_32(pid)?;
+            let start = number_64(start)?;
+            Ok(Step::GoneProcess { pid, start })
+        }
         _ => Err(LineKind::Count),
     }
 }

@@ -25,6 +25,7 @@ pub fn number_word(word: &[u8], greatest: u64) -> Result<u64, LineKind>
 }
 
 /// A number of 32 bits, as a pid or a uid.
+#[tactic(auto, unfolding(crate::specs::Words::number_32_in))]
 pub fn number_32(word: &[u8]) -> Result<u32, LineKind>
     ensures value { Gives result (number_32_in word.now) }
 {
@@ -33,6 +34,7 @@ pub fn number_32(word: &[u8]) -> Result<u32, LineKind>
 }
 
 /// A number of 64 bits, as a start time.
+#[tactic(auto, unfolding(crate::specs::Words::number_64_in))]
 pub fn number_64(word: &[u8]) -> Result<u64, LineKind>
     ensures value { Gives result (number_64_in word.now) }
 {
@@ -51,6 +53,7 @@ fn positive_word(word: &[u8], greatest: u32) -> Result<u32, LineKind>
 }
 
 /// The number of a connection.
+#[tactic(auto, unfolding(crate::specs::Words::caller_in))]
 pub fn caller_word(word: &[u8]) -> Result<u32, LineKind>
     ensures value { Gives result (caller_in word.now) }
 {
@@ -58,6 +61,7 @@ pub fn caller_word(word: &[u8]) -> Result<u32, LineKind>
 }
 
 /// The serial of a message.
+#[tactic(auto, unfolding(crate::specs::Words::serial_in))]
 pub fn serial_word(word: &[u8]) -> Result<u32, LineKind>
     ensures value { Gives result (serial_in word.now) }
 {
@@ -65,6 +69,7 @@ pub fn serial_word(word: &[u8]) -> Result<u32, LineKind>
 }
 
 /// An implicit value.
+#[tactic(auto, unfolding(crate::specs::Words::implicit_in))]
 pub fn implicit_word(word: &[u8]) -> Result<Implicit, LineKind>
     ensures value { Gives result (implicit_in word.now) }
 {
@@ -75,6 +80,7 @@ pub fn implicit_word(word: &[u8]) -> Result<Implicit, LineKind>
 }
 
 /// An implicit value that is optional: `-` for none.
+#[tactic(auto, unfolding(crate::specs::Words::optional_implicit_in))]
 pub fn optional_implicit_word(word: &[u8]) -> Result<Option<Implicit>, LineKind>
     ensures value { Gives result (optional_implicit_in word.now) }
 {
@@ -86,6 +92,7 @@ pub fn optional_implicit_word(word: &[u8]) -> Result<Option<Implicit>, LineKind>
 }
 
 /// Whether one of three words stands for a value: they may not all be `-`.
+#[tactic(auto, unfolding(crate::specs::Words::some_value_in))]
 pub fn some_value_word(any: &[u8], inactive: &[u8], active: &[u8]) -> Result<bool, LineKind>
     ensures value { Gives result (some_value_in any.now inactive.now active.now) }
 {
@@ -119,6 +126,7 @@ fn any_text(alloc: Global, word: &[u8]) -> Result<Text, LineKind>
 }
 
 /// A text that isn't empty.
+#[tactic(auto, unfolding(crate::specs::Words::text_in))]
 pub fn text_word(alloc: Global, word: &[u8]) -> Result<Text, LineKind>
     ensures value { Gives result (text_in word.now) }
 {
@@ -129,6 +137,7 @@ pub fn text_word(alloc: Global, word: &[u8]) -> Result<Text, LineKind>
 }
 
 /// An action id.
+#[tactic(auto, unfolding(crate::specs::Words::id_in))]
 pub fn id_word(alloc: Global, word: &[u8]) -> Result<ActionId, LineKind>
     ensures value { Gives result (id_in word.now) }
 {
@@ -141,6 +150,7 @@ pub fn id_word(alloc: Global, word: &[u8]) -> Result<ActionId, LineKind>
 }
 
 /// `local` or `remote`.
+#[tactic(auto, unfolding(crate::specs::Words::local_in))]
 pub fn local_word(word: &[u8]) -> Result<bool, LineKind>
     ensures value { Gives result (local_in word.now) }
 {
@@ -154,6 +164,7 @@ pub fn local_word(word: &[u8]) -> Result<bool, LineKind>
 }
 
 /// `active` or `idle`.
+#[tactic(auto, unfolding(crate::specs::Words::active_in))]
 pub fn active_word(word: &[u8]) -> Result<bool, LineKind>
     ensures value { Gives result (active_in word.now) }
 {
@@ -167,6 +178,7 @@ pub fn active_word(word: &[u8]) -> Result<bool, LineKind>
 }
 
 /// The session of a process: its id, or `-` for none.
+#[tactic(auto, unfolding(crate::specs::Words::session_in))]
 pub fn session_word(alloc: Global, word: &[u8]) -> Result<Option<Text>, LineKind>
     ensures value { Gives result (session_in word.now) }
 {

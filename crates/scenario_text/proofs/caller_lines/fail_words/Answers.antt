@@ -1,0 +1,9 @@
+use Rattle.std.proofs.Common.{refl, lit≤, codes}
+use Rattle.scenario_text.proofs.PlainTexts.{plain_text}
+use Rattle.scenario_text.proofs.caller_lines.fail_words.Goals as goal
+
+pub error_words-requires : goal.error_words-requires
+error_words-requires c = rw c.as_slice.ensures (plain_text (codes "org.freedesktop.PolicyKit1.Error.Failed") refl (lit≤ tt))
+
+pub returns-clause-value : goal.returns-clause-value
+returns-clause-value c = rw c.as_slice.ensures at c.error_words.ensures.value
