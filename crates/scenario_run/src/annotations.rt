@@ -7,7 +7,7 @@ ghost use Rattle.scenario_text.specs.Faults.{Gives, IsFaultOf};
 ghost use Rattle.scenario_run.specs.Drafts.{put_action, annotated, put_annotated, implied_by, one_more_id, imply, own};
 
 use crate::rows::put;
-use crate::texts::{known_text, owners, text};
+use crate::texts::owners;
 use authority_model::{Action, Loaded};
 use pk_types::{ActionId, NoMemory, Pair, Text, TextList, TryCopy};
 use scenario_text::LineKind;
@@ -22,17 +22,17 @@ pub fn put_action(draft: &mut Loaded, action: Action) -> Result<(), LineKind>
 }
 
 /// The key of the annotation that has the ids of implied actions.
-fn imply_key(alloc: Global) -> Result<Text, LineKind>
-    ensures value { Gives result (Ok imply_key) }
+fn imply_key(alloc: Global) -> Result<Text, NoMemory>
+    ensures key { IfOk result (λ key. key ≡ imply_key) }
 {
-    known_text(alloc, b"org.freedesktop.policykit.imply".as_slice())
+    Text::of_known(alloc, b"org.freedesktop.policykit.imply".as_slice())
 }
 
 /// The key of the annotation that has the owners.
-fn owner_key(alloc: Global) -> Result<Text, LineKind>
-    ensures value { Gives result (Ok owner_key) }
+fn owner_key(alloc: Global) -> Result<Text, NoMemory>
+    ensures key { IfOk result (λ key. key ≡ owner_key) }
 {
-    known_text(alloc, b"org.freedesktop.policykit.owner".as_slice())
+    Text::of_known(alloc, b"org.freedesktop.policykit.owner".as_slice())
 }
 
 /// The action with this annotation.
@@ -40,7 +40,7 @@ fn annotated(alloc: Global, action: Action, key: Text, value: &[u8]) -> Result<A
     ensures value { Gives result (annotated action key value.now) }
 {
     let mut action = action;
-    let value = text(alloc, value)?;
+    let value = Text::try_from_bytes(alloc, value)?;
     put(&mut action.annotations, Pair { key, value })?;
     Ok(action)
 }

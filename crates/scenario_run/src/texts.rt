@@ -1,35 +1,12 @@
 // Texts that the run puts together.
-ghost use Rattle.std.specs.Prelude.{◌≡◌, ◌++◌, Ok, IfOk, codes};
-ghost use Rattle.pk_types.specs.Text.{IsText};
+ghost use Rattle.std.specs.Prelude.{◌≡◌, ◌++◌, IfOk, codes};
 ghost use Rattle.scenario_text.specs.Faults.{Gives};
 ghost use Rattle.scenario_text.specs.Words.{any_text_in};
 ghost use Rattle.scenario_run.specs.Drafts.{owners};
 
-use pk_types::{NoMemory, Text, TextFault};
+use pk_types::{NoMemory, Text};
 use scenario_text::LineKind;
 use std::alloc::Global;
-
-/// The text of these bytes, and `Value` exactly where they are not a text.
-pub fn text(alloc: Global, bytes: &[u8]) -> Result<Text, LineKind>
-    ensures value { Gives result (any_text_in bytes.now) }
-{
-    match Text::try_from_bytes(alloc, bytes) {
-        Ok(text) => Ok(text),
-        Err(TextFault::NoMemory) => Err(LineKind::NoMemory),
-        Err(_) => Err(LineKind::Value),
-    }
-}
-
-/// The text of bytes that are a valid text.
-pub fn known_text(alloc: Global, bytes: &[u8]) -> Result<Text, LineKind>
-    requires { IsText bytes.now }
-    ensures value { Gives result (Ok bytes.now) }
-{
-    match Text::try_from_bytes(alloc, bytes) {
-        Ok(text) => Ok(text),
-        Err(_) => Err(LineKind::NoMemory),
-    }
-}
 
 fn joined(alloc: Global, front: &[u8], rest: &[u8]) -> Result<Vec<u8>, NoMemory>
     ensures bytes { IfOk result (λ bytes. bytes.items ≡ front.now ++ rest.now) }
@@ -43,7 +20,7 @@ fn label(alloc: Global, kind: &[u8], name: &Text) -> Result<Text, LineKind>
     ensures value { Gives result (any_text_in (kind.now ++ name.now)) }
 {
     let bytes = joined(alloc, kind, name.bytes())?;
-    text(alloc, &bytes)
+    Ok(Text::try_from_bytes(alloc, &bytes)?)
 }
 
 /// `unix-user:NAME`, and `Value` exactly where that is not a text.

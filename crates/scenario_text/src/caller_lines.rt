@@ -10,9 +10,9 @@ use crate::fault::LineKind;
 use crate::first_word::CallerWord;
 use crate::step::Step;
 use crate::subjects::{identity_word, subject_word};
-use crate::words::{caller_word, known_text, number_32, number_64, serial_word, text_word};
+use crate::words::{caller_word, number_32, number_64, serial_word, text_word};
 use authority_model::{Call, Event};
-use pk_types::List;
+use pk_types::{List, Text};
 use std::alloc::Global;
 
 /// A call, which wants its reply.
@@ -147,7 +147,7 @@ fn register_words(alloc: Global, args: &[&[u8]]) -> Result<Step, LineKind>
             let serial = serial_word(serial)?;
             let subject = subject_word(alloc, subject)?;
             let path = text_word(alloc, path)?;
-            let locale = known_text(alloc, b"C".as_slice())?;
+            let locale = Text::of_known(alloc, b"C".as_slice())?;
             Ok(called(
                 caller,
                 serial,
@@ -222,7 +222,7 @@ fn error_words(alloc: Global, args: &[&[u8]], name: &[u8]) -> Result<Step, LineK
         [caller, serial] => {
             let caller = caller_word(caller)?;
             let serial = serial_word(serial)?;
-            let name = known_text(alloc, name)?;
+            let name = Text::of_known(alloc, name)?;
             let event = Event::AgentError { serial, name };
             Ok(Step::Act { caller, event })
         }

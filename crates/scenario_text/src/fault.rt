@@ -1,5 +1,5 @@
 // What is wrong with a line.
-use pk_types::NoMemory;
+use pk_types::{IdFault, NoMemory, TextFault};
 use thiserror::Error;
 
 /// The kinds of fault of a line, in the order in which they are judged over the whole line.
@@ -35,6 +35,34 @@ impl From<NoMemory> for LineKind {
 
     fn from(_: NoMemory) -> Self {
         LineKind::NoMemory
+    }
+}
+
+impl From<TextFault> for LineKind {
+    ghost use Rattle.std.specs.Prelude.{◌≡◌};
+    ghost use Rattle.scenario_text.specs.Faults.{kind_of_text};
+
+    ghost from_gives = { λ fault e. e ≡ kind_of_text fault };
+
+    fn from(fault: TextFault) -> Self {
+        match fault {
+            TextFault::TooLong { .. } | TextFault::BadByte { .. } => LineKind::Value,
+            TextFault::NoMemory => LineKind::NoMemory,
+        }
+    }
+}
+
+impl From<IdFault> for LineKind {
+    ghost use Rattle.std.specs.Prelude.{◌≡◌};
+    ghost use Rattle.scenario_text.specs.Faults.{kind_of_id};
+
+    ghost from_gives = { λ fault e. e ≡ kind_of_id fault };
+
+    fn from(fault: IdFault) -> Self {
+        match fault {
+            IdFault::Empty | IdFault::TooLong { .. } | IdFault::BadChar { .. } => LineKind::Value,
+            IdFault::NoMemory => LineKind::NoMemory,
+        }
     }
 }
 

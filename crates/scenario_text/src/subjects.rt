@@ -1,14 +1,14 @@
 // The subjects and identities of lines.
-ghost use Rattle.std.specs.Prelude.{◌≡◌, ◌^◌, ◌<◌, [], ◌∷◌, map};
+ghost use Rattle.std.specs.Prelude.{◌≡◌, ◌^◌, ◌<◌, [], ◌∷◌, map, IfOk};
 ghost use Rattle.std.specs.Option.{option_map};
 ghost use Rattle.authority_model.specs.Words.{after_front, bus_name};
 ghost use Rattle.scenario_text.specs.Faults.{Gives};
 ghost use Rattle.scenario_text.specs.Subjects.{subject_of_parts, subject_in, identity_of_parts, identity_in};
 
 use crate::fault::LineKind;
-use crate::words::{caller_word, known_text, number_32, number_64, text_word};
+use crate::words::{caller_word, number_32, number_64, text_word};
 use byte_pieces::pieces;
-use pk_types::{Identity, Subject, Text};
+use pk_types::{Identity, NoMemory, Subject, Text};
 use std::alloc::Global;
 
 /// What comes after a prefix, and `None` exactly where the word does not have this prefix.
@@ -29,13 +29,11 @@ pub fn behind<'a>(word: &'a [u8], front: &[u8]) -> Option<&'a [u8]>
 }
 
 /// The bus name of a connection.
-fn name_of(alloc: Global, caller: u32) -> Result<Text, LineKind>
-    ensures value { Gives result (Ok (bus_name caller)) }
+fn name_of(alloc: Global, caller: u32) -> Result<Text, NoMemory>
+    ensures name { IfOk result (λ name. name ≡ bus_name caller) }
 {
-    match format!(in alloc; ":1.{caller}") {
-        Ok(name) => known_text(alloc, name.as_bytes()),
-        Err(_) => Err(LineKind::NoMemory),
-    }
+    let name = format!(in alloc; ":1.{caller}")?;
+    Text::of_known(alloc, name.as_bytes())
 }
 
 fn bus(alloc: Global, kind: &[u8], caller: &[u8]) -> Result<Subject, LineKind>

@@ -1,13 +1,12 @@
 // The words of a line, each read by itself.
-ghost use Rattle.std.specs.Prelude.{◌≡◌, ◌≤◌, [], ◌∷◌, map, Ok, IfOk};
-ghost use Rattle.pk_types.specs.Text.{IsText};
+ghost use Rattle.std.specs.Prelude.{◌≡◌, ◌≤◌, [], ◌∷◌, map, IfOk};
 ghost use Rattle.scenario_text.specs.Faults.{Gives};
-ghost use Rattle.scenario_text.specs.Words.{number_in, number_32_in, number_64_in, positive_in, caller_in, serial_in, implicit_in, optional_implicit_in, some_value_in, any_text_in, text_in, id_in, local_in, active_in, session_in, each_in, texts_in, gids_in};
+ghost use Rattle.scenario_text.specs.Words.{number_in, number_32_in, number_64_in, positive_in, caller_in, serial_in, implicit_in, optional_implicit_in, some_value_in, text_in, id_in, local_in, active_in, session_in, each_in, texts_in, gids_in};
 
 use crate::fault::LineKind;
 use authority_model::GidList;
 use byte_pieces::pieces;
-use pk_types::{ActionId, IdFault, Implicit, List, Text, TextFault, TextList, number_up_to};
+use pk_types::{ActionId, Implicit, List, Text, TextList, number_up_to};
 use std::alloc::Global;
 
 /// The greatest number of a connection in a scenario.
@@ -104,27 +103,6 @@ pub fn some_value_word(any: &[u8], inactive: &[u8], active: &[u8]) -> Result<boo
     }
 }
 
-/// The text of bytes that are a valid text.
-pub fn known_text(alloc: Global, bytes: &[u8]) -> Result<Text, LineKind>
-    requires { IsText bytes.now }
-    ensures value { Gives result (Ok bytes.now) }
-{
-    match Text::try_from_bytes(alloc, bytes) {
-        Ok(text) => Ok(text),
-        Err(_) => Err(LineKind::NoMemory),
-    }
-}
-
-fn any_text(alloc: Global, word: &[u8]) -> Result<Text, LineKind>
-    ensures value { Gives result (any_text_in word.now) }
-{
-    match Text::try_from_bytes(alloc, word) {
-        Ok(text) => Ok(text),
-        Err(TextFault::NoMemory) => Err(LineKind::NoMemory),
-        Err(_) => Err(LineKind::Value),
-    }
-}
-
 /// A text that isn't empty.
 #[tactic(auto, unfolding(crate::specs::Words::text_in))]
 pub fn text_word(alloc: Global, word: &[u8]) -> Result<Text, LineKind>
@@ -133,7 +111,7 @@ pub fn text_word(alloc: Global, word: &[u8]) -> Result<Text, LineKind>
     if word.is_empty() {
         return Err(LineKind::Value);
     }
-    any_text(alloc, word)
+    Ok(Text::try_from_bytes(alloc, word)?)
 }
 
 /// An action id.
@@ -141,12 +119,8 @@ pub fn text_word(alloc: Global, word: &[u8]) -> Result<Text, LineKind>
 pub fn id_word(alloc: Global, word: &[u8]) -> Result<ActionId, LineKind>
     ensures value { Gives result (id_in word.now) }
 {
-    let text = any_text(alloc, word)?;
-    match ActionId::read(&text) {
-        Ok(id) => Ok(id),
-        Err(IdFault::NoMemory) => Err(LineKind::NoMemory),
-        Err(_) => Err(LineKind::Value),
-    }
+    let text = Text::try_from_bytes(alloc, word)?;
+    Ok(ActionId::read(&text)?)
 }
 
 /// `local` or `remote`.
