@@ -13,13 +13,14 @@ use Rattle.authority_model.specs.declared.journal.Item.{Item}
 use Rattle.authority_model.specs.declared.journal.Limits.{Limits}
 use Rattle.authority_model.specs.declared.load.Loaded.{Loaded}
 use Rattle.authority_model.specs.declared.message.Output.{Output}
-use Rattle.authority_model.specs.Items.{items_of, is_load, loaded_of}
+use Rattle.authority_model.specs.Items.{items_of, is_load, loaded_of, sent}
 use Rattle.authority_model.specs.Answers.{answers, loads}
 use Rattle.authority_model.specs.Legal.{Legal, Follows, IsNumbered, IsCollected, last_moment}
-use Rattle.authority_model.specs.Entering.{cost_of_item, counted_bytes, is_full}
+use Rattle.authority_model.specs.Entering.{AreAllowed, cost_of_item, counted_bytes, is_full}
 use Rattle.authority_model.specs.Given.{Given, IsProperEvent, IsStepped, event_given, load_given, item_of, next, Grows}
 use Rattle.authority_model.specs.Small.{IsShort}
 use Rattle.authority_model.proofs.Pairing.{length_items, items_other, items_load, load_count, count_one}
+use Rattle.authority_laws.proofs.FewOutputs.{last_few}
 use Rattle.journal_state.specs.declared.state.State.{State}
 use Rattle.journal_state.specs.States.{IsStateOf}
 use Rattle.authority_core.specs.Journal.{Journal}
@@ -125,8 +126,8 @@ module _ (h : History) (moment : ℕ) (empty : Loaded) (state : State) (sound : 
   pub event_grows : Grows h (record { entries = es; loads = h.loads }) (event_given caller m salt event)
   event_grows = rw event_entry (items_other h (next (items_of h) (event_given caller m salt event)).entry (other (event_given caller m salt event) event proper))
 
-  pub event_sound : IsSound (record { entries = es; loads = h.loads }) t empty state'
-  event_sound =
+  pub event_sound : (limits : Limits) → AreAllowed limits → is_full limits (items_of h) ≡ false → IsSound (record { entries = es; loads = h.loads }) t empty state'
+  event_sound limits allowed room =
       let past = items_of h in
       let item : Item = next past (event_given caller m salt event) in
       let follows : Follows past item = record { rises = omega arith; bounded = omega (arith, last_bound past sound.legal.items); numbered = numbered (loads past) (event_given caller m salt event) event proper; collected = collected (last_moment past) (event_given caller m salt event) item.entry event proper refl refl; answered = refl } in
@@ -139,6 +140,7 @@ module _ (h : History) (moment : ℕ) (empty : Loaded) (state : State) (sound : 
         few = sound.few;
         actions = subst (λ past. IsShort (loaded_of past).policy.actions) (sym event_grows) sound.actions;
         rules = subst (λ past. IsShort (loaded_of past).policy.entries) (sym event_grows) sound.rules;
+        sent_few = λ c. let whole = ap (λ past. sent past c) event_grows in let last = last_few limits past item c (follows, sound.legal.items) allowed room in omega (arith, whole, last);
       }
 
 -- a load's entry that was pushed with the load, with a state of the history that ends with it
@@ -164,8 +166,8 @@ module _ (h : History) (moment : ℕ) (empty : Loaded) (state : State) (sound : 
       ∙ ap (λ ls. items_of (record { entries = h.entries ++ (next (items_of h) (load_given caller m l)).entry ∷ []; loads = ls })) loaded
       ∙ items_load h (next (items_of h) (load_given caller m l)).entry l refl sound.each_loaded
 
-  pub load_sound : IsSound h' t empty state'
-  load_sound =
+  pub load_sound : (limits : Limits) → AreAllowed limits → is_full limits (items_of h) ≡ false → IsSound h' t empty state'
+  load_sound limits allowed room =
       let past = items_of h in
       let item : Item = next past (load_given caller m l) in
       let follows : Follows past item = record { rises = omega arith; bounded = omega (arith, last_bound past sound.legal.items); numbered = refl; collected = tt; answered = refl } in
@@ -179,6 +181,7 @@ module _ (h : History) (moment : ℕ) (empty : Loaded) (state : State) (sound : 
         few = omega (arith, longer, number_is, number_fits);
         actions = subst (λ past. IsShort (loaded_of past).policy.actions) (sym load_grows) actions;
         rules = subst (λ past. IsShort (loaded_of past).policy.entries) (sym load_grows) rules;
+        sent_few = λ c. let whole = ap (λ past. sent past c) load_grows in let last = last_few limits past item c (follows, sound.legal.items) allowed room in omega (arith, whole, last);
       }
 
 -- the counted bytes after one more item

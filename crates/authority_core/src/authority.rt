@@ -224,19 +224,19 @@ impl Authority {
     }
 
     /// How many outputs the journal has to a connection.
-    pub fn sent_count(&self, caller: u32) -> u64
+    pub fn sent_count(&self, caller: u32) -> u32
         ensures count { result ≡ sent (items_of self.now.history) caller }
     {
-        self.state.sent.count(caller)
+        self.state.sent.count(caller) as u32
     }
 
     /// The output that has this number among those to a connection, counted from 1. `None` exactly
     /// where the number is 0 or above `sent_count`.
-    pub fn output_to(&self, caller: u32, number: u64) -> Option<&Output>
+    pub fn output_to(&self, caller: u32, number: u32) -> Option<&Output>
         ensures output { option_copied result ≡ numbered_output (items_of self.now.history) caller number }
     {
         let before = number.checked_sub(1)?;
-        output_to(&self.history, &self.state, caller, before)
+        output_to(&self.history, &self.state, caller, u64::from(before))
     }
 
     /// Whether a caller may collect the outputs to a connection: there is one that it has not collected,

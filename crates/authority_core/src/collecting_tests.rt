@@ -165,7 +165,7 @@ const LOADS: [Turn; 5] = [
 ];
 
 /// Number of an output to connection 1, and what it tells.
-const NUMBERED: [(u64, Option<Told>); 4] = [
+const NUMBERED: [(u32, Option<Told>); 4] = [
     (0, None),
     (1, Some(Told::Actions(1))),
     (2, Some(Told::Changed)),

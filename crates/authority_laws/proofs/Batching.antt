@@ -82,7 +82,7 @@ sent_counted (i ∷ past) c =
     let rest = sent_counted past c in
     omega (arith, more, last, rest)
 
-count_few : (c : ℕ) (outputs : List Output) → count_to c outputs ≤ length outputs
+pub count_few : (c : ℕ) (outputs : List Output) → count_to c outputs ≤ length outputs
 count_few c [] = omega arith
 count_few c (o ∷ outputs) = of (o.to == c) (count_few c outputs)
   where

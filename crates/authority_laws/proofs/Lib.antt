@@ -31,3 +31,4 @@ pub mod LiveAgents
 pub mod OutputCases
 pub mod Sending
 pub mod Batching
+pub mod FewOutputs

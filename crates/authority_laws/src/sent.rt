@@ -33,9 +33,11 @@ pub fn outputs_name_loads()
     ensures named { (past : List Item) (c : ℕ) → Legal past → greatest_load (sent_to past c) ≤ length (loads_in past) }
 {}
 
-/// A journal that is not full sent few outputs to each connection: their numbers fit 32 bits.
+/// A journal sent few outputs to each connection, so their numbers fit 32 bits: where it is not full,
+/// and also behind the last item that it takes, which may fill it.
 pub fn outputs_are_few()
     ensures few { (limits : Limits) (past : List Item) (c : ℕ) → AreAllowed limits → is_full limits past ≡ false → sent past c < 2 ^ 23 }
+    ensures last { (limits : Limits) (past : List Item) (i : Item) (c : ℕ) → Legal (i ∷ past) → AreAllowed limits → is_full limits past ≡ false → sent (i ∷ past) c < 2 ^ 24 }
 {}
 
 /// What a Collect takes of a legal journal that is not full is a batch: the outputs after those that

@@ -1,9 +1,9 @@
-use Rattle.std.proofs.Common.{◌≡◌, ◌≤◌, ◌∙◌, ap, sym, subst, add-zero, ◌∷◌, List, None, arith}
+use Rattle.std.proofs.Common.{◌≡◌, ◌≤◌, ◌∙◌, ap, sym, subst, add-zero, ◌∷◌, List, None, false, arith}
 use Rattle.authority_core.specs.Journal.{Journal}
 use Rattle.authority_model.specs.declared.journal.Item.{Item}
 use Rattle.authority_model.specs.Answers.{answers}
 use Rattle.authority_model.specs.Costs.{cost_of_entry}
-use Rattle.authority_model.specs.Entering.{cost_of_item}
+use Rattle.authority_model.specs.Entering.{cost_of_item, is_full}
 use Rattle.authority_model.specs.Given.{Grows, event_given, next}
 use Rattle.authority_model.specs.Items.{items_of, loaded_of}
 use Rattle.authority_model.specs.Legal.{last_moment}
@@ -32,8 +32,11 @@ module _ (c : goal.After-self-in-Ok-enter-1) where
   grown : Grows c.self.inside.history (record { entries = c.enter.new.entries; loads = c.self.inside.history.loads }) (event_given c.args.caller c.args.moment c.args.salt c.args.event)
   grown = event_grows c.self.inside.history c.self.inside.moment c.self.inside.empty c.self.inside.state c.self.invariant.sound c.args.caller c.args.moment c.max-moment.result c.args.salt c.args.event c.in-Ok.outputs c.enter.new.entries c.enter.new.state c.requires.event c.requires.moment c.max-moment.ensures answered c.in-Ok-enter.ensures.ok stands
 
+  room : is_full c.self.inside.limits before ≡ false
+  room = subst (λ (j : Journal). is_full j.limits (items_of j.history) ≡ false) (sym c.self.view_is) c.requires.room
+
   sound : IsSound (record { entries = c.enter.new.entries; loads = c.self.inside.history.loads }) c.max-moment.result c.self.inside.empty c.enter.new.state
-  sound = event_sound c.self.inside.history c.self.inside.moment c.self.inside.empty c.self.inside.state c.self.invariant.sound c.args.caller c.args.moment c.max-moment.result c.args.salt c.args.event c.in-Ok.outputs c.enter.new.entries c.enter.new.state c.requires.event c.requires.moment c.max-moment.ensures answered c.in-Ok-enter.ensures.ok stands
+  sound = event_sound c.self.inside.history c.self.inside.moment c.self.inside.empty c.self.inside.state c.self.invariant.sound c.args.caller c.args.moment c.max-moment.result c.args.salt c.args.event c.in-Ok.outputs c.enter.new.entries c.enter.new.state c.requires.event c.requires.moment c.max-moment.ensures answered c.in-Ok-enter.ensures.ok stands c.self.inside.limits c.self.invariant.allowed room
 
   cost : c.cost_of_entry-cost.result ≡ cost_of_item (next before (event_given c.args.caller c.args.moment c.args.salt c.args.event))
   cost =

@@ -1,10 +1,10 @@
-use Rattle.std.proofs.Common.{◌≡◌, ◌≤◌, ◌+◌, ◌∙◌, ◌++◌, ◌∷◌, [], ap, sym, subst, refl, List, Some, arith}
+use Rattle.std.proofs.Common.{◌≡◌, ◌≤◌, ◌+◌, ◌∙◌, ◌++◌, ◌∷◌, [], ap, sym, subst, refl, List, Some, false, arith}
 use Rattle.authority_model.specs.declared.event.Event.TheVariants.{Load}
 use Rattle.authority_core.specs.Journal.{Journal}
 use Rattle.authority_model.specs.declared.journal.Item.{Item}
 use Rattle.authority_model.specs.Answers.{answers}
 use Rattle.authority_model.specs.Costs.{cost_of_entry}
-use Rattle.authority_model.specs.Entering.{cost_of_item}
+use Rattle.authority_model.specs.Entering.{cost_of_item, is_full}
 use Rattle.authority_model.specs.Given.{Grows, load_given, next}
 use Rattle.authority_model.specs.Items.{items_of}
 use Rattle.authority_model.specs.Legal.{last_moment}
@@ -29,8 +29,11 @@ module _ (c : goal.After-self-in-Ok-enter_load-1) where
   grown : Grows c.self.inside.history c.enter_load.new.history (load_given c.args.caller c.args.moment c.args.loaded)
   grown = load_grows c.self.inside.history c.self.inside.moment c.self.inside.empty c.self.inside.state c.self.invariant.sound c.args.caller c.args.moment c.max-greatest.result c.in-Some.number c.args.loaded c.in-Ok.outputs c.enter_load.new.history c.enter_load.new.state c.requires.moment c.max-greatest.ensures c.in-Some.ensures.number c.in-Some.ensures.fits c.in-Some.ensures.actions c.in-Some.ensures.rules answered c.in-Ok-enter_load.ensures.entries c.in-Ok-enter_load.ensures.loads stands
 
+  room : is_full c.self.inside.limits before ≡ false
+  room = subst (λ (j : Journal). is_full j.limits (items_of j.history) ≡ false) (sym c.self.view_is) (sym c.if-is_full.ensures.full)
+
   sound : IsSound c.enter_load.new.history c.max-greatest.result c.self.inside.empty c.enter_load.new.state
-  sound = load_sound c.self.inside.history c.self.inside.moment c.self.inside.empty c.self.inside.state c.self.invariant.sound c.args.caller c.args.moment c.max-greatest.result c.in-Some.number c.args.loaded c.in-Ok.outputs c.enter_load.new.history c.enter_load.new.state c.requires.moment c.max-greatest.ensures c.in-Some.ensures.number c.in-Some.ensures.fits c.in-Some.ensures.actions c.in-Some.ensures.rules answered c.in-Ok-enter_load.ensures.entries c.in-Ok-enter_load.ensures.loads stands
+  sound = load_sound c.self.inside.history c.self.inside.moment c.self.inside.empty c.self.inside.state c.self.invariant.sound c.args.caller c.args.moment c.max-greatest.result c.in-Some.number c.args.loaded c.in-Ok.outputs c.enter_load.new.history c.enter_load.new.state c.requires.moment c.max-greatest.ensures c.in-Some.ensures.number c.in-Some.ensures.fits c.in-Some.ensures.actions c.in-Some.ensures.rules answered c.in-Ok-enter_load.ensures.entries c.in-Ok-enter_load.ensures.loads stands c.self.inside.limits c.self.invariant.allowed room
 
   cost : c.cost_of_entry.result + c.cost_of_load.result ≡ cost_of_item (next before (load_given c.args.caller c.args.moment c.args.loaded))
   cost =
