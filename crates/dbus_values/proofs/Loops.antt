@@ -84,6 +84,12 @@ filled (x ∷ s) b p q = omega arith
 pub not_zero : (n : ℕ) → (n ≡ 0 → ⊥) → eqb n 0 ≡ false
 not_zero n h = grind (arith, nat_tests)
 
+pub type_empty : (sig : List ℕ) (b : Bool) → b ≡ eqb (length sig) 0 → b ≡ true → None ≡ type_end 65 32 32 sig
+type_empty [] b is empty = sym (type_none 65 32 32)
+type_empty (c ∷ sig) b is empty =
+    let not : eqb (length (c ∷ sig)) 0 ≡ false = not_zero (length (c ∷ sig)) (λ e. omega (arith, e)) in
+    absurd cc
+
 -- one more type of a signature
 pub types_step : (n i : ℕ) (here : List ℕ) → i < n → (eqb (length here) 0 ≡ false) → are_types (n - i) here ≡ types_on (are_types (n - (i + 1))) (after_type here)
 unfolding are_types

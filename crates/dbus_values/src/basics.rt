@@ -9,6 +9,7 @@ use crate::cursor::Cursor;
 use crate::fault::{Fault, FaultKind};
 
 /// What follows so many bytes 0.
+#[inline(never)]
 #[tactic(auto, using(crate::proofs::Loops::zeros_step), unfolding(crate::specs::Basics::zeros))]
 fn zeros(n: usize, from: Cursor) -> Result<Cursor, Fault>
     requires { n < 8 }

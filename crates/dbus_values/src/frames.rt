@@ -65,6 +65,7 @@ impl<'a> Model for Frames<'a> {
 
 impl<'a> Frames<'a> {
     /// None is open.
+    #[inline(always)]
     pub fn new() -> Frames<'a>
         ensures empty { result ≡ [] }
     {

@@ -29,6 +29,7 @@ impl<'a> Model for KnownItems<'a> {
 
 impl<'a> KnownItems<'a> {
     /// An item of one letter in each slot.
+    #[inline(always)]
     pub fn new() -> KnownItems<'a> {
         let item: &'a [u8] = b"y";
         KnownItems { slots: [item; 256] }

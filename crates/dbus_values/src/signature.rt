@@ -105,11 +105,18 @@ fn type_end(level: u8, arrays: u8, structs: u8, sig: &[u8]) -> Option<&[u8]>
     }
 }
 
-/// What follows the complete type at the front.
+/// What follows the complete type at the front, in short where it is one letter.
+#[inline(always)]
 pub fn after_type(sig: &[u8]) -> Option<&[u8]>
     ensures exact { option_map (λ rest. rest.now) result ≡ after_type sig.now }
 {
-    type_end(65, 32, 32, sig)
+    if sig.is_empty() {
+        return None;
+    }
+    match Class::of(sig[0]) {
+        Class::Array | Class::Struct | Class::Entry | Class::Other => type_end(65, 32, 32, sig),
+        _ => Some(behind_first(sig)),
+    }
 }
 
 /// What follows the item of an array.

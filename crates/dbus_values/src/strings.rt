@@ -40,6 +40,7 @@ pub fn is_text(bytes: &[u8]) -> bool
 }
 
 /// n bytes and the byte 0 behind them, of a text that begins with its length at `at`.
+#[inline(always)]
 #[tactic(auto, unfolding(crate::specs::Basics::ended))]
 fn ended(at: usize, n: usize, from: Cursor) -> Result<(&[u8], Cursor), Fault>
     ensures exact { Gives (λ x. (x.0.now, spot x.1)) result (ended at n from.entry.at from.entry.rest.now) }
@@ -54,6 +55,7 @@ fn ended(at: usize, n: usize, from: Cursor) -> Result<(&[u8], Cursor), Fault>
 }
 
 /// A text behind its length.
+#[inline(always)]
 #[tactic(auto, unfolding(crate::specs::Basics::text_at))]
 fn text_at(big: bool, from: Cursor) -> Result<(&[u8], Cursor), Fault>
     ensures exact { Gives (λ x. (x.0.now, spot x.1)) result (text_at big from.entry.at from.entry.rest.now) }
@@ -68,6 +70,7 @@ fn text_at(big: bool, from: Cursor) -> Result<(&[u8], Cursor), Fault>
 }
 
 /// A signature behind its length.
+#[inline(always)]
 #[tactic(auto, unfolding(crate::specs::Basics::signature_at))]
 pub fn signature_at(from: Cursor) -> Result<(&[u8], Cursor), Fault>
     ensures exact { Gives (λ x. (x.0.now, spot x.1)) result (signature_at from.entry.at from.entry.rest.now) }
@@ -122,6 +125,7 @@ pub fn is_path(bytes: &[u8]) -> bool
 }
 
 /// A text, an object path or a signature, from its first byte.
+#[inline(always)]
 #[tactic(auto, unfolding(crate::specs::Basics::string_at))]
 pub fn string_at(class: Class, big: bool, from: Cursor) -> Result<(&[u8], Cursor), Fault>
     ensures exact { Gives (λ x. (x.0.now, spot x.1)) result (string_at class big from.entry.at from.entry.rest.now) }

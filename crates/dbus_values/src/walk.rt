@@ -28,6 +28,7 @@ pub struct Walk<'a> {
 
 impl<'a> Walk<'a> {
     /// The walk over the values of a signature, before its first step.
+    #[inline(always)]
     pub fn new(types: &'a [u8], here: Cursor<'a>) -> Walk<'a>
         ensures { place result ≡ state [] types.now here.entry.at here.entry.rest.now }
     {
@@ -313,7 +314,8 @@ fn enter<'a>(limit: usize, big: bool, walk: &mut Walk<'a>, sig: &'a [u8]) -> Res
     )
 }
 
-/// The same, with a short way for bytes and for structures, of which a body can have most.
+/// The same, with a short way for bytes and for structures, of which a body can have most. `Ok(..?)`
+/// lets only what the other way returned lie in memory.
 #[inline(always)]
 #[tactic(auto, using(crate::proofs::Steps::enter_rules))]
 fn enter_short<'a>(
@@ -340,7 +342,7 @@ fn enter_short<'a>(
                 Err(Fault::new(FaultKind::Depth, start.at))
             }
         }
-        class => enter_any(class, limit, big, walk, sig[0], behind),
+        class => Ok(enter_any(class, limit, big, walk, sig[0], behind)?),
     }
 }
 
@@ -377,7 +379,7 @@ fn enter_item<'a>(
         return Err(Fault::new(FaultKind::Text, walk.here.at));
     }
     if sig[0] == b'{' {
-        enter_entry(limit, walk, behind_first(sig))
+        Ok(enter_entry(limit, walk, behind_first(sig))?)
     } else {
         enter_short(limit, big, walk, sig)
     }
@@ -475,7 +477,7 @@ pub fn next_part<'a>(limit: usize, big: bool, walk: &mut Walk<'a>) -> Result<Par
 {
     let sig = walk.types;
     match walk.frames.top() {
-        None => enter(limit, big, walk, sig),
+        None => Ok(enter(limit, big, walk, sig)?),
         Some(frame) => match frame {
             Frame::Items {
                 item,
@@ -495,14 +497,14 @@ pub fn next_part<'a>(limit: usize, big: bool, walk: &mut Walk<'a>) -> Result<Par
                 in_items(limit, big, walk, array)
             }
             Frame::Members => in_members(limit, big, walk),
-            Frame::Key => in_key(limit, big, walk),
+            Frame::Key => Ok(in_key(limit, big, walk)?),
             Frame::Value => {
                 walk.frames.pop();
                 walk.frames.push(Frame::Closing);
-                enter(limit, big, walk, sig)
+                Ok(enter(limit, big, walk, sig)?)
             }
-            Frame::Closing => in_closing(walk),
-            Frame::Inner { .. } => enter(limit, big, walk, sig),
+            Frame::Closing => Ok(in_closing(walk)?),
+            Frame::Inner { .. } => Ok(enter(limit, big, walk, sig)?),
         },
     }
 }
