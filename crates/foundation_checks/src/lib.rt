@@ -12,6 +12,8 @@ mod line_reader_tests;
 #[cfg(test)]
 mod pk_outside_dir_tree_tests;
 #[cfg(test)]
+mod pk_outside_station_tests;
+#[cfg(test)]
 mod pk_outside_tests;
 #[cfg(test)]
 mod pk_types_tests;
