@@ -18,7 +18,7 @@ use Rattle.serve_words.specs.declared.plan.ServePlan.{ServePlan}
 use Rattle.shared_authority.specs.Journals.{Fits, IsJournal}
 use Rattle.shared_authority.specs.Lasting.{fits_lasts}
 use Rattle.service_slots.proofs.Backs.{slots_longer}
-use Rattle.service_slots.specs.Doors.{DoorMade, door_made, made_of}
+use Rattle.service_slots.specs.Doors.{DoorMade, DoorsAreDone, door_made, made_of}
 use Rattle.service_slots.specs.declared.line.Line.{Line}
 use Rattle.service_slots.specs.Served.{Served, Slots, SlotsOf}
 use Rattle.authority_model.specs.Words.{Bytes}
@@ -66,6 +66,15 @@ doors_back plan count t0 t1 t2 made doors opens shuts same_made = record {
         shut ∙ ap (λ (s : List DoorBack). s ++ backs) same,
         made_same backs (first_doors plan.doors plan.slots old.doors count) (sym (ap (λ (l : List (Option DoorTold)). map made_of l) doors_are) ∙ (same_made ∙ first_is)),
       ));
+}
+
+-- the doors that came back once the doors were opened are all that came back
+pub opened_done : (paths : List DoorPath) (each count : ℕ) (t0 t1 t2 : Option StationTold) (made : List (Option DoorMade)) (most : Option ℕ) → OpensFirst paths each count t0 t1 made → DoorsAreDone most t1 t2 → DoorsAreDone most t0 t2
+opened_done paths each count t0 t1 t2 made most opens after = record {
+  where_told = (λ now e.
+      let (mid, mid_is, backs, shut, done) = after.where_told now e in
+      let (old, old_is, first_is, behind, same) = opens.where_told mid mid_is in
+      (old, old_is, backs, shut ∙ ap (λ (s : List DoorBack). s ++ backs) same, done));
 }
 
 -- no door was made

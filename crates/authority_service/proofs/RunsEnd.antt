@@ -17,10 +17,10 @@ use Rattle.pk_outside.specs.declared.station.StationRefused.TheVariants as refus
 use Rattle.serve_words.specs.declared.plan.ServePlan.{ServePlan}
 use Rattle.service_slots.specs.declared.opening.ShutSlot.{ShutSlot}
 use Rattle.service_slots.specs.Served.{SlotsOf}
-use Rattle.service_slots.specs.Stops.{StopTells}
+use Rattle.service_slots.specs.Stops.{HasServedAll, StopTells}
 use Rattle.shared_authority.specs.Journals.{IsJournal}
 use Rattle.door_words.specs.declared.door.DoorPath.{DoorPath}
-use Rattle.service_slots.specs.Doors.{DoorMade}
+use Rattle.service_slots.specs.Doors.{DoorMade, DoorsAreDone}
 use Rattle.authority_service.specs.Beginning.{BeginsWith}
 use Rattle.authority_service.specs.Places.{OpensFirst}
 use Rattle.authority_service.specs.Begun.{HasRun, Objects, UnbegunCause, unbegun_by}
@@ -63,8 +63,9 @@ pub slots_run : (plan : ServePlan) (limits : Limits) (first : Loaded) (out : Obj
     → IfSome kept (λ cause. FitsJournal limits cause (in_order history))
     → IfNone kept (LoadsAll limits out.tree plan.root (in_order history) × All (λ s. ended_slot s.stop ≡ None) slots)
     → (known : Known Item) × All (λ s. StopTells limits plan.stop_after known mid out.station_faults s.lines.items s.stop) slots
-    → out.station_faults_before ≤ mid → HasRun plan first out history slots kept
-slots_run plan limits first out history slots kept made mid same legal begins served back all many cause whole (known, stops) le = record {
+    → out.station_faults_before ≤ mid → (All (λ s. HasServedAll s.stop) slots → DoorsAreDone plan.stop_after out.station_before out.station)
+    → HasRun plan first out history slots kept
+slots_run plan limits first out history slots kept made mid same legal begins served back all many cause whole (known, stops) le done = record {
   legal = legal;
   begins = begins;
   served = served;
@@ -80,6 +81,7 @@ slots_run plan limits first out history slots kept made mid same legal begins se
           known = known;
           none_ended = w.1;
           stops = subst (λ (l : Limits). All (λ s. StopTells l plan.stop_after known out.station_faults_before out.station_faults s.lines.items s.stop) slots) (sym same) (stops_before limits plan.stop_after known out.station_faults_before mid out.station_faults slots stops le);
+          done = done;
         };
         loads = subst (λ (l : Limits). LoadsAll l out.tree plan.root (in_order history)) (sym same) w.0;
       });

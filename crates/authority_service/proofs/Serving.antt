@@ -2,7 +2,8 @@
 use Rattle.std.proofs.Common.{◌≡◌, ◌≤◌, ◌++◌, ◌⊎◌, [], ◌∷◌, List, ℕ, Bool, true, false, Option, None, Some, Err, IfSome, inl, inr, refl, sym, ap, ◌∙◌, subst, append_assoc, append-nil, arith}
 use Rattle.std.specs.Prelude.{All, length, ◌||◌}
 use Rattle.std.specs.List.{flat_map, list_any}
-use Rattle.std.proofs.lemmas.List.Elements.{All-append, All-head, All-tail, All-nil}
+use Rattle.std.proofs.lemmas.Bool.{or_parts}
+use Rattle.std.proofs.lemmas.List.Elements.{All-append, All-cons, All-head, All-tail, All-nil}
 use Rattle.history_lock.specs.Known.{Known}
 use Rattle.history_lock.specs.declared.machine.EndCause.{EndCause}
 use Rattle.history_lock.specs.declared.machine.EndCause.TheVariants as cause
@@ -20,7 +21,7 @@ use Rattle.service_slots.specs.declared.line.Line.{Line}
 use Rattle.service_slots.specs.declared.opening.ShutSlot.{ShutSlot}
 use Rattle.service_slots.specs.declared.stop.SlotStop.{SlotStop}
 use Rattle.service_slots.specs.declared.stop.SlotStop.TheVariants as stop
-use Rattle.service_slots.specs.Stops.{NoneEnded, StopTells, ended_by}
+use Rattle.service_slots.specs.Stops.{HasServedAll, NoneEnded, StopTells, ended_by}
 use Rattle.authority_service.specs.declared.ends.ServiceEnd.{ServiceEnd}
 use Rattle.policy_load.specs.declared.refused.LoadRefused.{LoadRefused}
 use Rattle.policy_load.specs.declared.refused.LoadRefused.TheVariants as load_refused
@@ -32,7 +33,7 @@ use Rattle.authority_service.specs.Ends.{end_of_refused}
 use Rattle.authority_service.specs.Lines.{service_text}
 use Rattle.authority_service.specs.Printing.{IsPrinted, WasPrinted, WasUntold, WrittenAs}
 use Rattle.authority_service.specs.Running.{ended_slot}
-use Rattle.authority_service.specs.Service.{HasServed, IsFirst, IsLeft, IsUnbegun, IsUntouched, Left, Outside, Serves, WasWhole, end_of, has_failed_door, has_no_memory, printed}
+use Rattle.authority_service.specs.Service.{AllServed, HasServed, IsFirst, IsLeft, IsUnbegun, IsUntouched, Left, Outside, Serves, WasWhole, end_of, has_failed_door, has_no_memory, printed}
 
 -- some bytes were got, and then others
 pub got_both : (h0 h1 h2 : Option (List ℕ)) (a b : List ℕ) → Got h0 h1 a → Got h1 h2 b → Got h0 h2 (a ++ b)
@@ -95,6 +96,30 @@ any_rose limits most w from now (s ∷ slots) stops failed =
     one true b e here there = here refl
     one false b e here there = there e
 
+-- a slot that was stopped neither by the lock nor by its door nor for want of memory served all
+told_all : (limits : Limits) (most : Option ℕ) (w : Known Item) (from now : ℕ) (lines : List Line) (why : Option SlotStop)
+    → StopTells limits most w from now lines why → ended_slot why ≡ None → has_no_memory why ≡ false → has_failed_door why ≡ false → HasServedAll why
+told_all limits most w from now lines None t none memory failed = absurd t
+told_all limits most w from now lines (Some stop.Closed) t none memory failed = inl refl
+told_all limits most w from now lines (Some stop.DoorFailed) t none memory failed = absurd (cc (failed))
+told_all limits most w from now lines (Some stop.NoMemory) t none memory failed = absurd (cc (memory))
+told_all limits most w from now lines (Some stop.Served) t none memory failed = inr refl
+told_all limits most w from now lines (Some (stop.Ended cause)) t none memory failed = absurd (cc (none))
+
+-- the same of all slots
+all_served : (limits : Limits) (most : Option ℕ) (w : Known Item) (from now : ℕ) (slots : List ShutSlot)
+    → All (λ s. StopTells limits most w from now s.lines.items s.stop) slots → All (λ s. ended_slot s.stop ≡ None) slots
+    → list_any (λ s. has_no_memory s.stop) slots ≡ false → list_any (λ s. has_failed_door s.stop) slots ≡ false → All (λ s. HasServedAll s.stop) slots
+all_served limits most w from now [] stops none memory failed = All-nil (λ (s : ShutSlot). HasServedAll s.stop)
+all_served limits most w from now (s ∷ slots) stops none memory failed =
+    let (memory_here, memory_there) = or_parts (has_no_memory s.stop) (list_any (λ (t : ShutSlot). has_no_memory t.stop) slots) memory in
+    let (failed_here, failed_there) = or_parts (has_failed_door s.stop) (list_any (λ (t : ShutSlot). has_failed_door t.stop) slots) failed in
+    let P = λ (t : ShutSlot). StopTells limits most w from now t.lines.items t.stop in
+    let Q = λ (t : ShutSlot). ended_slot t.stop ≡ None in
+    All-cons (λ (t : ShutSlot). HasServedAll t.stop) s slots
+    (told_all limits most w from now s.lines.items s.stop (All-head P s slots stops) (All-head Q s slots none) memory_here failed_here)
+    (all_served limits most w from now slots (All-tail P s slots stops) (All-tail Q s slots none) memory_there failed_there)
+
 -- the text that was written is a front of all that is printed
 wrote_front : (first : Loaded) (left : Left) (h0 h1 h2 : Option (List ℕ)) (f0 f1 : ℕ) (text : List ℕ) (written : Bool) → text ≡ service_text (items_of left.journal) left.lines
     → Got h0 h1 (skipped_lines first.faults) → WrittenAs h1 h2 f0 f1 text written → GotFront h0 h2 (printed first left)
@@ -135,6 +160,13 @@ was_whole plan first out history slots text run told =
       loads = whole.loads;
       all_loads = told.loads refl;
     }
+
+-- and no slot was stopped by its door or for want of memory
+doors_done : (plan : ServePlan) (first : Loaded) (out : Outside) (history : History) (slots : List ShutSlot) (run : HasRun plan first (objects_of out) history slots None)
+    → list_any (λ s. has_no_memory s.stop) slots ≡ false → list_any (λ s. has_failed_door s.stop) slots ≡ false → AllServed plan out
+doors_done plan first out history slots run memory failed =
+    let stopped = (run.whole refl).stopped in
+    stopped.done (all_served plan.limits plan.stop_after stopped.known out.station_faults_before out.station_faults slots stopped.stops stopped.none_ended memory failed)
 
 -- the service was served, and what it printed is a front of its text
 served_so : (plan : ServePlan) (first : Loaded) (out : Outside) (history : History) (slots : List ShutSlot) (kept : Option EndCause) (text : List ℕ) (run : HasRun plan first (objects_of out) history slots kept)
@@ -177,13 +209,13 @@ serves_by plan first out history slots None text h1 faults run is_first told bef
     )
 serves_by plan first out history slots None text h1 faults run is_first told before later false false true n d wrote =
     let left = left_of history slots run.doors in
-    rw (n, d) (record { first = first; left = left; served = served_so plan first out history slots None text run is_first told (wrote_front first left out.held_before h1 out.held faults out.write_faults text true told.text_is before wrote); more = (was_whole plan first out history slots text run told, wrote_whole first left out.held_before h1 out.held faults out.write_faults text told.text_is before wrote) })
+    rw (n, d) (record { first = first; left = left; served = served_so plan first out history slots None text run is_first told (wrote_front first left out.held_before h1 out.held faults out.write_faults text true told.text_is before wrote); more = (was_whole plan first out history slots text run told, doors_done plan first out history slots run n d, wrote_whole first left out.held_before h1 out.held faults out.write_faults text told.text_is before wrote) })
 serves_by plan first out history slots None text h1 faults run is_first told before later false false false n d wrote =
     let left = left_of history slots run.doors in
     let rose = wrote.1 in
     rw (n, d) (
       omega (arith, later, rose),
-      inr (record { first = first; left = left; served = served_so plan first out history slots None text run is_first told (wrote_front first left out.held_before h1 out.held faults out.write_faults text false told.text_is before wrote); more = was_whole plan first out history slots text run told }),
+      inr (record { first = first; left = left; served = served_so plan first out history slots None text run is_first told (wrote_front first left out.held_before h1 out.held faults out.write_faults text false told.text_is before wrote); more = (was_whole plan first out history slots text run told, doors_done plan first out history slots run n d) }),
     )
 
 -- a service whose slots ended, once its lines were printed

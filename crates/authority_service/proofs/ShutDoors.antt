@@ -2,7 +2,7 @@
 use Rattle.std.proofs.Common.{◌≡◌, ◌++◌, ◌≤◌, [], ◌∷◌, List, ℕ, Option, None, Some, refl, sym, ap, ◌∙◌, subst, append_assoc, append-nil, arith}
 use Rattle.std.specs.Prelude.{All, flat_map, map}
 use Rattle.std.proofs.lemmas.List.{flat_map_more, map-append}
-use Rattle.std.proofs.lemmas.List.Elements.{All-head, All-push, All-tail, All-weaker}
+use Rattle.std.proofs.lemmas.List.Elements.{All-append, All-head, All-nil, All-pop, All-push, All-tail, All-weaker}
 use Rattle.history_lock.specs.Known.{Known}
 use Rattle.pk_outside.specs.Causes.{Rose}
 use Rattle.pk_outside.specs.Doors.{DoorTold}
@@ -15,8 +15,8 @@ use Rattle.service_slots.specs.declared.line.Line.{Line}
 use Rattle.service_slots.specs.declared.stop.SlotStop.{SlotStop}
 use Rattle.service_slots.specs.declared.stop.SlotStop.TheVariants as stop
 use Rattle.service_slots.specs.declared.opening.ShutSlot.{ShutSlot}
-use Rattle.service_slots.specs.Doors.{ShutsDoor}
-use Rattle.service_slots.specs.Stops.{StopTells}
+use Rattle.service_slots.specs.Doors.{DoorsAreDone, IsDone, ShutsDoor}
+use Rattle.service_slots.specs.Stops.{HasServedAll, StopTells}
 use Rattle.authority_service.specs.Shutting.{ShutsAll}
 
 -- no slot was shut
@@ -40,6 +40,31 @@ shuts_next t0 t1 t2 doors one before shuts = record {
         left_is ∙ left,
       ));
 }
+
+-- no door came back
+pub done_none : (most : Option ℕ) (told : Option StationTold) → DoorsAreDone most told told
+done_none most told = record { where_told = (λ now e. (now, e, [], sym (append-nil now.shut), All-nil (λ (b : DoorBack). IsDone most b.door))) }
+
+-- doors came back that are done, and then others
+pub done_both : (most : Option ℕ) (t0 t1 t2 : Option StationTold) → DoorsAreDone most t0 t1 → DoorsAreDone most t1 t2 → DoorsAreDone most t0 t2
+done_both most t0 t1 t2 first second = record {
+  where_told = (λ now e.
+      let (mid, mid_is, later, shut, later_done) = second.where_told now e in
+      let (old, old_is, backs, was, done) = first.where_told mid mid_is in (
+        old,
+        old_is,
+        backs ++ later,
+        shut ∙ ap (λ (s : List DoorBack). s ++ later) was ∙ append_assoc old.shut backs later,
+        All-append (λ (b : DoorBack). IsDone most b.door) backs later done later_done,
+      ));
+}
+
+-- the next slot was shut, and all of them served all
+pub done_next : (most : Option ℕ) (t0 t1 t2 : Option StationTold) (slots now : List ShutSlot) (one : ShutSlot) → now ≡ slots ++ one ∷ []
+    → (All (λ s. HasServedAll s.stop) slots → DoorsAreDone most t0 t1) → (HasServedAll one.stop → DoorsAreDone most t1 t2) → All (λ s. HasServedAll s.stop) now → DoorsAreDone most t0 t2
+done_next most t0 t1 t2 slots now one pushed before next all =
+    let (these, last) = All-pop (λ (s : ShutSlot). HasServedAll s.stop) now slots (Some one) pushed all in
+    done_both most t0 t1 t2 (before these) (next last)
 
 -- what a slot's stop told goes on to hold, as the pass learns more and the station counts more
 pub told_later : (limits : Limits) (most : Option ℕ) (v w : Known Item) (from until now : ℕ) (lines : List Line) (why : Option SlotStop)

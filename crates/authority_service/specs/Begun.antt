@@ -14,8 +14,9 @@ use Rattle.pk_outside.specs.declared.station.StationRefused.{StationRefused}
 use Rattle.pk_outside.specs.declared.station.StationRefused.TheVariants as refused
 use Rattle.serve_words.specs.declared.plan.ServePlan.{ServePlan}
 use Rattle.service_slots.specs.declared.opening.ShutSlot.{ShutSlot}
+use Rattle.service_slots.specs.Doors.{DoorsAreDone}
 use Rattle.service_slots.specs.Served.{SlotsOf}
-use Rattle.service_slots.specs.Stops.{StopTells}
+use Rattle.service_slots.specs.Stops.{HasServedAll, StopTells}
 use Rattle.shared_authority.specs.Journals.{IsJournal}
 use Rattle.authority_service.specs.declared.top.Unbegun.{Unbegun}
 use Rattle.authority_service.specs.declared.top.Unbegun.TheVariants as unbegun
@@ -59,11 +60,12 @@ pub record IsShort (plan : ServePlan) (out : Objects) (why : Unbegun) : Type 0 w
   pub unserved : SlotsOf [] out.station_before [] → SlotsOf [] out.station []
   pub cause : UnbegunCause out.station_faults_before out.station_faults why
 
--- Why the slots had stopped, by what a pass knew at the end.
+-- Why the slots had stopped, by what a pass knew at the end, and what this says of their doors.
 pub record HaveStopped (plan : ServePlan) (out : Objects) (slots : List ShutSlot) : Type 0 where
   pub known : Known Item
   pub none_ended : All (λ s. ended_slot s.stop ≡ None) slots
   pub stops : All (λ s. StopTells plan.limits plan.stop_after known out.station_faults_before out.station_faults s.lines.items s.stop) slots
+  pub done : All (λ s. HasServedAll s.stop) slots → DoorsAreDone plan.stop_after out.station_before out.station
 
 -- The lock was not ended: all slots of the plan were served, and the loader loaded to its end.
 pub record RanWhole (plan : ServePlan) (out : Objects) (history : History) (slots : List ShutSlot) (doors : ℕ) : Type 0 where

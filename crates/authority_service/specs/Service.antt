@@ -23,7 +23,7 @@ use Rattle.service_slots.specs.declared.line.Line.{Line}
 use Rattle.service_slots.specs.declared.opening.ShutSlot.{ShutSlot}
 use Rattle.service_slots.specs.declared.stop.SlotStop.{SlotStop}
 use Rattle.service_slots.specs.declared.stop.SlotStop.TheVariants as stop
-use Rattle.service_slots.specs.Doors.{door_made}
+use Rattle.service_slots.specs.Doors.{door_made, DoorsAreDone}
 use Rattle.service_slots.specs.Served.{SlotsOf}
 use Rattle.service_slots.specs.Stops.{NoneEnded}
 use Rattle.shared_authority.specs.Journals.{IsJournal}
@@ -116,6 +116,10 @@ pub record WasWhole (plan : ServePlan) (out : Outside) (left : Left) : Type 0 wh
   pub loads : LoadsAll plan.limits out.tree plan.root (in_order left.journal)
   pub all_loads : AreAllLoads (totals_of (items_of left.journal))
 
+-- Each door that came back has no link left, or took back as many as each slot was to serve.
+abbrev pub AllServed : ServePlan → Outside → Type 0
+AllServed plan out = DoorsAreDone plan.stop_after out.station_before out.station
+
 -- so many passes cannot have been made by fewer connections and slots
 abbrev pub AdmitsAll : ServePlan → Left → Type 0
 AdmitsAll plan left = PLACES ≤ 2 * length left.lines + 3 * slots_of plan + 2
@@ -156,8 +160,8 @@ Serves plan out (end.TreeFault count) = IsUntouched out × (count ≡ out.tree_f
 Serves plan out (end.LoadRefused refused) = IsUntouched out × IfSome out.tree (λ tree. load_of tree plan.root ≡ Err refused)
 Serves plan out end.NoMemory = IsUntouched out ⊎ (IsUnbegun plan out ⊎ WasCutShort plan out)
 Serves plan out end.DoorFault = Rose out.station_faults_before out.station_faults × (IsUnbegun plan out ⊎ Ended plan out (λ first left. WasWhole plan out left))
-Serves plan out end.WriteFault = Rose out.write_faults_before out.write_faults × (IsUnbegun plan out ⊎ Ended plan out (λ first left. WasWhole plan out left))
-Serves plan out end.Done = Ended plan out (λ first left. WasWhole plan out left × Got out.held_before out.held (printed first left))
+Serves plan out end.WriteFault = Rose out.write_faults_before out.write_faults × (IsUnbegun plan out ⊎ Ended plan out (λ first left. WasWhole plan out left × AllServed plan out))
+Serves plan out end.Done = Ended plan out (λ first left. WasWhole plan out left × AllServed plan out × Got out.held_before out.held (printed first left))
 Serves plan out (end.JournalFull entries bytes) = Ended plan out (λ first left. FitsJournal plan.limits (cause.JournalFull entries bytes) (in_order left.journal))
 Serves plan out (end.Admissions admitted) = Ended plan out (λ first left. FitsJournal plan.limits (cause.Admissions admitted) (in_order left.journal) × AdmitsAll plan left)
 

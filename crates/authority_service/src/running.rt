@@ -10,9 +10,9 @@ ghost use Rattle.authority_service.specs.Shutting.{ShutsAll};
 ghost use Rattle.history_lock.specs.Known.{Known};
 ghost use Rattle.authority_model.specs.declared.journal.Item.{Item};
 ghost use Rattle.pk_outside.specs.Doors.{DoorTold};
-ghost use Rattle.service_slots.specs.Doors.{made_of};
+ghost use Rattle.service_slots.specs.Doors.{made_of, DoorsAreDone};
 ghost use Rattle.service_slots.specs.Served.{SlotOf, SlotsOf};
-ghost use Rattle.service_slots.specs.Stops.{NoneEnded, StopTells};
+ghost use Rattle.service_slots.specs.Stops.{HasServedAll, NoneEnded, StopTells};
 ghost use Rattle.shared_authority.specs.Journals.{Fits, IsJournal, past_of};
 
 use crate::causes::{ended_loader, ended_slots};
@@ -96,6 +96,8 @@ where
     ensures cause { IfSome result.cause (λ cause. FitsJournal L.limits cause (in_order result.authority.history)) }
     ensures whole { IfNone result.cause (LoadsAll L.limits (F.told tree.old) plan.now.root (in_order result.authority.history) × All (λ s. ended_slot s.stop ≡ None) result.slots.items) }
     ensures stops { (k : Known Item) × All (λ s. StopTells L.limits plan.now.stop_after k (N.faults station.old) (N.faults station.new) s.lines.items s.stop) result.slots.items }
+    ensures done { All (λ s. SlotOf s.pass.history (N.Door.owner s.door) (N.Door.told s.door) (N.Clock.gave s.clock) (N.Salt.gave s.salt) s.lines.items) slots.items
+        → All (λ s. HasServedAll s.stop) result.slots.items → DoorsAreDone plan.now.stop_after (N.told station.old) (N.told station.new) }
     ensures later { N.faults station.old ≤ N.faults station.new }
 {
     let EndedService {

@@ -3,8 +3,9 @@ ghost use Rattle.std.specs.Prelude.{◌≡◌, ◌≤◌, [], All, ℕ, Option, 
 ghost use Rattle.std.specs.Vec.{vec_capacity};
 ghost use Rattle.authority_service.specs.Shutting.{ShutsAll};
 ghost use Rattle.connection_laws.specs.Knowing.{KnowsMore};
+ghost use Rattle.service_slots.specs.Doors.{DoorsAreDone};
 ghost use Rattle.service_slots.specs.Served.{SlotOf, SlotsOf};
-ghost use Rattle.service_slots.specs.Stops.{IsStopped, StopTells};
+ghost use Rattle.service_slots.specs.Stops.{HasServedAll, IsStopped, StopTells};
 
 use history_lock::{Pass, TableName};
 use pk_outside::Station;
@@ -28,6 +29,10 @@ pub fn shut_slots<L: LimitsName, T: TableName, N: Station>(
     ensures doors { ShutsAll (N.told station.old) (N.told station.new) (map (λ s. N.Door.told s.door) slots.items) }
     ensures stops { (most : Option ℕ) → All (λ s. IsStopped L.limits most s.pass (N.Door.told s.door) (N.Door.faults s.door) s.lines.items s.stop) slots.items
         → All (λ s. StopTells L.limits most control.new (N.faults station.old) (N.faults station.new) s.lines.items s.stop) shut.new.items }
+    ensures done { (most : Option ℕ)
+        → All (λ s. SlotOf s.pass.history (N.Door.owner s.door) (N.Door.told s.door) (N.Clock.gave s.clock) (N.Salt.gave s.salt) s.lines.items) slots.items
+        → All (λ s. IsStopped L.limits most s.pass (N.Door.told s.door) (N.Door.faults s.door) s.lines.items s.stop) slots.items
+        → All (λ s. HasServedAll s.stop) shut.new.items → DoorsAreDone most (N.told station.old) (N.told station.new) }
     ensures knows { KnowsMore control.old control.new }
     ensures top { control.new.made ≤ 1048576 }
     ensures lines { map (λ s. s.lines.items) shut.new.items ≡ map (λ s. s.lines.items) slots.items }

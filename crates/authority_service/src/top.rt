@@ -253,6 +253,8 @@ fn end_of_refused(refused: LoadRefused) -> ServiceEnd
 /// Serves the connections of the doors of a plan, from the first load of the tree to the lines that
 /// are printed at the end.
 ///
+/// On `Done` each door had no link left, or has taken back as many links as each slot was to serve.
+///
 /// # Errors
 /// Each end other than `Done` has its cause in `served`; `NoMemory` is free.
 pub fn serve<F, N, O, R>(

@@ -21,6 +21,8 @@ use std::thread::Threads;
 /// all have ended, and the station takes them back. At last a line for each connection and one for the
 /// journal are written. It may wait for connections for ever.
 ///
+/// On `Done` each door had no link left, or has taken back as many links as each slot was to serve.
+///
 /// # Errors
 /// The first of these that applies: `TreeFault` only where the tree counted a fault in the first load,
 /// and `LoadRefused` exactly where this is refused by a limit or a table; `JournalFull` and

@@ -1,11 +1,19 @@
 -- The doors that came back, as one more is opened or shut.
-use Rattle.std.proofs.Common.{◌≡◌, ◌++◌, [], ◌∷◌, List, ℕ, Option, Some, refl, sym, ap, ◌∙◌, subst, append_assoc, append-nil}
+use Rattle.std.proofs.Common.{◌≡◌, ◌++◌, [], ◌∷◌, List, ℕ, suc, Option, Some, inl, inr, refl, sym, ap, ◌∙◌, subst, append_assoc, append-nil}
+use Rattle.std.specs.Prelude.{length}
+use Rattle.std.proofs.lemmas.List.Elements.{All-cons, All-nil}
 use mathlib.Core.List.{IsPrefix}
+use Rattle.history_lock.specs.Known.{Known}
 use Rattle.pk_outside.specs.Doors.{DoorTold}
+use Rattle.pk_outside.specs.Links.{LinkBack}
 use Rattle.pk_outside.specs.Stations.{DoorBack, StationTold, MakesDoor, MakesClock, MakesSalt, Shuts, first_list}
 use Rattle.authority_model.specs.declared.journal.Item.{Item}
+use Rattle.authority_model.specs.declared.journal.Limits.{Limits}
 use Rattle.service_slots.specs.declared.line.Line.{Line}
+use Rattle.service_slots.specs.declared.stop.SlotStop.{SlotStop}
+use Rattle.service_slots.specs.Doors.{DoorsAreDone, IsDone}
 use Rattle.service_slots.specs.Served.{Served, SlotOf, Slots, SlotsOf}
+use Rattle.service_slots.specs.Stops.{HasServedAll, IsStopped}
 use Rattle.service_slots.proofs.Told.{shuts_from, door_from, clock_from, salt_from}
 use Rattle.service_slots.proofs.Growing.{served_longer}
 
@@ -31,6 +39,34 @@ shut_step H more before after owner door readings words lines mine all longer sl
       let (of, served) = slot.where_told back.door back.readings back.words d r w in
       let mine_served : Served more back.door.uid back.door.taken mine back.readings back.words = subst (λ (u : ℕ). Served more u back.door.taken mine back.readings back.words) (sym of) served in
       subst (λ (backs : List DoorBack). Slots more backs (lines ++ mine)) (sym (ap (λ (s : StationTold). s.shut) is)) (slots_more more old.shut lines back mine (slots_longer H more old.shut lines longer (all.where_told old b)) mine_served));
+}
+
+-- there is a line for each link that came back
+served_length : (H : List Item) (uid : ℕ) (links : List LinkBack) (lines : List Line) (readings words : List ℕ) → Served H uid links lines readings words → length lines ≡ length links
+served_length H uid [] [] readings words s = refl
+served_length H uid [] (line ∷ lines) readings words s = absurd s
+served_length H uid (link ∷ links) [] readings words s = absurd s
+served_length H uid (link ∷ links) (line ∷ lines) readings words (used, later, drawn, others, r, w, spoke, rest) = ap suc (served_length H uid links lines later others rest)
+
+-- the door of a slot that served all is done
+door_done : (H : List Item) (limits : Limits) (most : Option ℕ) (v : Known Item) (owner faults : ℕ) (door : DoorTold) (lines : List Line) (readings words : List ℕ) (why : Option SlotStop)
+    → Served H owner door.taken lines readings words → IsStopped limits most v (Some door) faults lines why → HasServedAll why → IsDone most door
+door_done H limits most v owner faults door lines readings words why served stopped (inl closed) =
+    inl (subst (λ (w : Option SlotStop). IsStopped limits most v (Some door) faults lines w) closed stopped).0
+door_done H limits most v owner faults door lines readings words why served stopped (inr all) =
+    let counted = (subst (λ (w : Option SlotStop). IsStopped limits most v (Some door) faults lines w) all stopped).0 in
+    inr (counted ∙ ap (λ (n : ℕ). Some n) (served_length H owner door.taken lines readings words served))
+
+-- the door of a slot that served all was shut
+pub shut_done : (H : List Item) (limits : Limits) (most : Option ℕ) (v : Known Item) (before after : Option StationTold) (owner faults : ℕ) (told : Option DoorTold) (readings words : Option (List ℕ)) (lines : List Line) (why : Option SlotStop)
+    → SlotOf H owner told readings words lines → IsStopped limits most v told faults lines why → HasServedAll why → Shuts before after told readings words → DoorsAreDone most before after
+shut_done H limits most v before after owner faults told readings words lines why slot stopped all shuts = record {
+  where_told = (λ now e.
+      let (old, b, back, d, r, w, is) = shuts_from before after told readings words now shuts e in
+      let served = (slot.where_told back.door back.readings back.words d r w).1 in
+      let here : IsStopped limits most v (Some back.door) faults lines why = subst (λ (t : Option DoorTold). IsStopped limits most v t faults lines why) d stopped in
+      let done = door_done H limits most v owner faults back.door lines back.readings back.words why served here all in
+      (old, b, back ∷ [], ap (λ (t : StationTold). t.shut) is, All-cons (λ (x : DoorBack). IsDone most x.door) back [] done (All-nil _)));
 }
 
 -- a slot that was just opened, at a station that tells, has served nothing

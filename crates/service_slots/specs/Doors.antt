@@ -1,5 +1,5 @@
 -- Which door a slot has, and that it takes back each link that it gives.
-use Rattle.std.specs.Prelude.{◌≡◌, ◌++◌, [], ◌∷◌, ℕ, List, Option, Some, map, option_map}
+use Rattle.std.specs.Prelude.{◌≡◌, ◌⊎◌, ◌++◌, [], ◌∷◌, ℕ, List, Option, Some, All, length, map, option_map}
 use Rattle.pk_outside.specs.Doors.{DoorTold}
 use Rattle.pk_outside.specs.Stations.{DoorBack, StationTold, first_list, other_lists}
 
@@ -30,3 +30,13 @@ pub record ShutsDoor (before after : Option StationTold) (door : Option DoorTold
   pub where_told : (now : StationTold) → after ≡ Some now
       → (old : StationTold) × (before ≡ Some old) × (back : DoorBack)
       × (now.shut ≡ old.shut ++ back ∷ []) × (door ≡ Some back.door) × (now.doors ≡ old.doors)
+
+-- The door has no link left, or it took back as many as its slot was to serve.
+abbrev pub IsDone : Option ℕ → DoorTold → Type 0
+IsDone most door = (door.left ≡ []) ⊎ (most ≡ Some (length door.taken))
+
+-- Each door that came back to a station, behind those before, is done.
+pub record DoorsAreDone (most : Option ℕ) (before after : Option StationTold) : Type 0 where
+  pub where_told : (now : StationTold) → after ≡ Some now
+      → (old : StationTold) × (before ≡ Some old) × (backs : List DoorBack)
+      × (now.shut ≡ old.shut ++ backs) × All (λ back. IsDone most back.door) backs

@@ -48,6 +48,10 @@ abbrev pub IsStopped : Limits → Option ℕ → Known Item → Option DoorTold 
 IsStopped limits most w told faults lines None = ⊥
 IsStopped limits most w told faults lines (Some why) = StopsAs limits most w told faults lines why
 
+-- The slot stopped since its door had no link left, or since it had served as many connections as it was to serve.
+abbrev pub HasServedAll : Option SlotStop → Type 0
+HasServedAll why = (why ≡ Some stop.Closed) ⊎ (why ≡ Some stop.Served)
+
 -- Why a slot that was shut had stopped, by what the control pass knows since and by the station's count.
 abbrev pub StopTells : Limits → Option ℕ → Known Item → ℕ → ℕ → List Line → Option SlotStop → Type 0
 StopTells limits most w before now lines None = ⊥

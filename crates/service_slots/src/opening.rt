@@ -6,9 +6,9 @@ ghost use Rattle.pk_outside.specs.Refusals.{StationCause};
 ghost use Rattle.pk_outside.specs.Stations.{StationTold};
 ghost use Rattle.shared_authority.specs.Journals.{IsJournal, caller_of};
 ghost use Rattle.service_slots.specs.declared.line.Line.{Line};
-ghost use Rattle.service_slots.specs.Doors.{made_of, OpensDoor, ShutsDoor};
+ghost use Rattle.service_slots.specs.Doors.{made_of, DoorsAreDone, OpensDoor, ShutsDoor};
 ghost use Rattle.service_slots.specs.Served.{SlotOf, SlotsOf};
-ghost use Rattle.service_slots.specs.Stops.{IsStopped, StopTells};
+ghost use Rattle.service_slots.specs.Stops.{HasServedAll, IsStopped, StopTells};
 
 use crate::line::Line;
 use crate::slot::Slot;
@@ -66,6 +66,9 @@ pub fn shut_slot<L: LimitsName, T: TableName, N: Station>(
     ensures door { ShutsDoor (N.told station.old) (N.told station.new) (N.Door.told slot.door) }
     ensures same { (result.lines ≡ slot.lines) × (result.stop ≡ slot.stop) }
     ensures stop { (most : Option ℕ) → IsStopped L.limits most slot.pass (N.Door.told slot.door) (N.Door.faults slot.door) slot.lines.items slot.stop → StopTells L.limits most control.new (N.faults station.old) (N.faults station.new) result.lines.items result.stop }
+    ensures done { (most : Option ℕ) → SlotOf slot.pass.history (N.Door.owner slot.door) (N.Door.told slot.door) (N.Clock.gave slot.clock) (N.Salt.gave slot.salt) slot.lines.items
+        → IsStopped L.limits most slot.pass (N.Door.told slot.door) (N.Door.faults slot.door) slot.lines.items slot.stop
+        → HasServedAll result.stop → DoorsAreDone most (N.told station.old) (N.told station.new) }
     ensures learned { Learned caller_of IsJournal control.old control.new }
     ensures top { control.new.made ≤ 1048576 }
     ensures later { N.faults station.old ≤ N.faults station.new }

@@ -88,3 +88,8 @@ returns-clause-whole g c =
 
 pub returns-clause-stops : goal.returns-clause-stops
 returns-clause-stops g c = (c.shut_slots.new.control, c.shut_slots.ensures.stops c.args.plan.now.stop_after c.serve_beside_loader-zero.ensures.stopped)
+
+pub returns-clause-done : goal.returns-clause-done
+returns-clause-done g c was served =
+    let s = c.serve_beside_loader-zero in
+    c.shut_slots.ensures.done c.args.plan.now.stop_after (s.ensures.slots was) s.ensures.stopped served

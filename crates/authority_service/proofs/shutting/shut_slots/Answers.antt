@@ -10,7 +10,7 @@ use Rattle.service_slots.specs.declared.opening.ShutSlot.{ShutSlot}
 use Rattle.service_slots.specs.Served.{SlotOf, SlotsOf}
 use Rattle.service_slots.specs.Stops.{IsStopped, StopTells}
 use Rattle.authority_service.specs.Shutting.{ShutsAll}
-use Rattle.authority_service.proofs.ShutDoors.{shuts_none, shuts_next, next_of, moved_on, moved_to, moved_all, lines_next, stops_next}
+use Rattle.authority_service.proofs.ShutDoors.{done_next, done_none, shuts_none, shuts_next, next_of, moved_on, moved_to, moved_all, lines_next, stops_next}
 use Rattle.authority_service.proofs.shutting.shut_slots.Goals as goal
 
 pub loop-slot-init : goal.loop-slot-init
@@ -28,6 +28,7 @@ loop-slot-init g c =
       stopped = search rules;
       slots = λ all was. (all, subst (λ (l : List ShutSlot). SlotsOf control.history told (flat_map (λ (s : ShutSlot). s.lines.items) l)) (sym {A = List ShutSlot} none) was);
       stops = λ most all. (all, subst (λ (l : List ShutSlot). All (λ (s : ShutSlot). StopTells g.L.LimitsName.limits most control (g.N.Station.faults c.args.station.now) (g.N.Station.faults c.args.station.now) s.lines.items s.stop) l) (sym {A = List ShutSlot} none) (All-nil _));
+      done = λ most all stopped. (all, λ served. done_none most told);
     }
 
 pub loop-slot-preserved : goal.loop-slot-preserved
@@ -73,6 +74,15 @@ loop-slot-preserved g c =
             rest,
             stops_next limits most c.loop-slot.control one.new.control start until now done c.push_reserved.new.self.items one.result pushed knows one.ensures.top before.later one.ensures.later so (one.ensures.stop most next),
           );
+      done = λ most was stopped.
+          let (these, so) = before.done most was stopped in
+          let P = λ (s : Slot g.row.L.Denot g.row.T.Denot g.row.N-Door.Denot g.row.N-Clock.Denot g.row.N-Salt.Denot g.row.N-Door-Link.Denot g.row.N-Door-Link-In.Denot g.row.N-Door-Link-Out.Denot g.L.LimitsName). SlotOf s.pass.history (g.N.Door.Door.owner s.door) (g.N.Door.Door.told s.door) (g.N.Clock.Clock.gave s.clock) (g.N.Salt.Salt.gave s.salt) s.lines.items in
+          let Q = λ (s : Slot g.row.L.Denot g.row.T.Denot g.row.N-Door.Denot g.row.N-Clock.Denot g.row.N-Salt.Denot g.row.N-Door-Link.Denot g.row.N-Door-Link-In.Denot g.row.N-Door-Link-Out.Denot g.L.LimitsName). IsStopped g.L.LimitsName.limits most s.pass (g.N.Door.Door.told s.door) (g.N.Door.Door.faults s.door) s.lines.items s.stop in
+          let (next, rest) = next_of slot others left P step these in
+          let (next_stopped, others_stopped) = next_of slot others left Q step (before.stops most stopped).0 in (
+            rest,
+            done_next most (g.N.Station.told c.args.station.now) (g.N.Station.told c.loop-slot.station) (g.N.Station.told one.new.station) done c.push_reserved.new.self.items one.result pushed so (one.ensures.done most next next_stopped),
+          );
     }
 
 pub returns-clause-slots : goal.returns-clause-slots
@@ -94,4 +104,12 @@ returns-clause-stops g c most was =
     let all : c.into_iter-slot-iterator.result.rest.items ≡ c.args.slots.items = search rules in
     let P = λ (s : Slot g.row.L.Denot g.row.T.Denot g.row.N-Door.Denot g.row.N-Clock.Denot g.row.N-Salt.Denot g.row.N-Door-Link.Denot g.row.N-Door-Link-In.Denot g.row.N-Door-Link-Out.Denot g.L.LimitsName). IsStopped g.L.LimitsName.limits most s.pass (g.N.Door.Door.told s.door) (g.N.Door.Door.faults s.door) s.lines.items s.stop in
     let (rest, so) = c.loop-slot.invariant.stops most (All-same P _ _ all was) in
+    so
+
+pub returns-clause-done : goal.returns-clause-done
+returns-clause-done g c most was stopped =
+    let all : c.into_iter-slot-iterator.result.rest.items ≡ c.args.slots.items = search rules in
+    let P = λ (s : Slot g.row.L.Denot g.row.T.Denot g.row.N-Door.Denot g.row.N-Clock.Denot g.row.N-Salt.Denot g.row.N-Door-Link.Denot g.row.N-Door-Link-In.Denot g.row.N-Door-Link-Out.Denot g.L.LimitsName). SlotOf s.pass.history (g.N.Door.Door.owner s.door) (g.N.Door.Door.told s.door) (g.N.Clock.Clock.gave s.clock) (g.N.Salt.Salt.gave s.salt) s.lines.items in
+    let Q = λ (s : Slot g.row.L.Denot g.row.T.Denot g.row.N-Door.Denot g.row.N-Clock.Denot g.row.N-Salt.Denot g.row.N-Door-Link.Denot g.row.N-Door-Link-In.Denot g.row.N-Door-Link-Out.Denot g.L.LimitsName). IsStopped g.L.LimitsName.limits most s.pass (g.N.Door.Door.told s.door) (g.N.Door.Door.faults s.door) s.lines.items s.stop in
+    let (rest, so) = c.loop-slot.invariant.done most (All-same P _ _ all was) (All-same Q _ _ all stopped) in
     so

@@ -2,7 +2,7 @@ use Rattle.std.proofs.Common.{◌*◌, List, refl, ap, ◌∙◌, arith, length,
 use Rattle.std.specs.Prelude.{slice_index_or}
 use Rattle.authority_laws.specs.Batches.{in_order}
 use Rattle.door_words.specs.declared.door.DoorPath.{DoorPath}
-use Rattle.authority_service.proofs.Closing.{doors_back, flat_none, flat_same, opened_none, short_none, unserved_told, made_again}
+use Rattle.authority_service.proofs.Closing.{doors_back, flat_none, flat_same, opened_done, opened_none, short_none, unserved_told, made_again}
 use Rattle.authority_service.proofs.FirstLoad.{begins_longer}
 use Rattle.authority_service.proofs.RunsEnd.{opens_at, slots_run, unbegun_cause}
 use Rattle.authority_service.proofs.top.run_passes.Goals as goal
@@ -39,6 +39,12 @@ returns-in-Ok-open_slots-clause-ran g c = λ first begins.
     (doors_back plan (vec_len c.open_slots.new.slots) t0 t1 t2 _ doors opens shuts same)
     (c.in-Ok-open_slots.ensures.all ∙ ap (λ (ps : List DoorPath). length ps * plan.slots) c.as_slice.ensures.items)
     r.all r.cause r.whole r.stops o.cause.later
+    (λ served. record {
+      where_told = (λ t e.
+          let (mid, mid_is, backs, shut, told, left) = shuts.where_told t e in
+          (opened_done c.as_slice.result.now plan.slots (vec_len c.open_slots.new.slots) t0 t1 t2 _ plan.stop_after o.doors
+          (r.done (λ i d lt. o.slots mid (slice_index_or c.open_slots.new.slots.items i d).pass.history mid_is i d lt) served)).where_told t e);
+    })
 
 pub returns-in-Err-clause-short : goal.returns-in-Err-clause-short
 returns-in-Err-clause-short g c =

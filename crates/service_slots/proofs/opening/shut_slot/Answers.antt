@@ -3,7 +3,7 @@ use Rattle.std.proofs.Common.{sym, subst, List, ◌≤◌, arith}
 use Rattle.authority_model.specs.declared.journal.Item.{Item}
 use Rattle.service_slots.proofs.Fresh.{learned_prefix}
 use Rattle.service_slots.proofs.Growing.{slot_longer}
-use Rattle.service_slots.proofs.Backs.{shut_step}
+use Rattle.service_slots.proofs.Backs.{shut_done, shut_step}
 use Rattle.service_slots.proofs.Stopping.{stop_told}
 use Rattle.service_slots.proofs.opening.shut_slot.Goals as goal
 
@@ -28,3 +28,9 @@ returns-clause-stop g c most is =
     let made : s.pass.made ≤ m.new.first.made = omega (arith, grown, equal) in
     stop_told g.L.LimitsName.limits most s.pass m.new.first (g.N.Door.Door.told s.door) (g.N.Door.Door.faults s.door) (g.N.Station.faults c.args.station.now) (g.N.Station.faults c.shut.new.self) s.lines.items s.stop
     is c.shut.ensures.count known m.ensures.first.legal made m.ensures.top
+
+pub returns-clause-done : goal.returns-clause-done
+returns-clause-done g c most slot stopped all =
+    let s = c.args.slot in
+    shut_done s.pass.history g.L.LimitsName.limits most s.pass (g.N.Station.told c.args.station.now) (g.N.Station.told c.shut.new.self) (g.N.Door.Door.owner s.door) (g.N.Door.Door.faults s.door) (g.N.Door.Door.told s.door) (g.N.Clock.Clock.gave s.clock) (g.N.Salt.Salt.gave s.salt) s.lines.items s.stop
+    slot stopped all c.shut.ensures.shut
