@@ -346,7 +346,6 @@ fn words(alloc: Global, row: &Row) -> Result<TextList, Fail> {
 fn run(alloc: Global, row: &Row) -> Result<(AgentStatus, ByteSink, TwoDoors), Fail> {
     let words = words(alloc, row)?;
     let mut station = TwoDoors {
-        alloc,
         door: Some(link(alloc, row.door, 50, row.faults)?),
         helper: Some(link(alloc, row.helper, 50, NONE)?),
         first: None,

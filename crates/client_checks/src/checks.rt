@@ -245,7 +245,6 @@ fn stopped() -> &'static [Row] {
 fn check(alloc: Global, row: &Row) -> Result<(CheckStatus, ByteSink, TwoDoors), Fail> {
     let words = texts(alloc, row.words)?;
     let mut station = TwoDoors {
-        alloc,
         door: Some(link(alloc, row.server, 1, row.faults)?),
         helper: None,
         first: None,

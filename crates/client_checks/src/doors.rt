@@ -5,9 +5,8 @@ ghost use Rattle.pk_outside.specs.Held.{sink_calls, source_calls};
 ghost use Rattle.pk_outside.specs.Stations.{has_fault};
 
 use crate::messages::Part;
-use pk_outside::{
-    ByteLink, ByteSink, ByteSource, Ends, ListClock, ListDoor, ListSalt, Station, StationRefused,
-};
+use empty_station::{EmptyClock, EmptyDoor, EmptySalt};
+use pk_outside::{ByteLink, ByteSink, ByteSource, Ends, Station, StationRefused};
 use pk_types::{List, Text, TextList};
 use std::alloc::Global;
 use std::test::Fail;
@@ -37,7 +36,6 @@ const ROOM: usize = 4096;
 /// in their order.
 #[derive(Drop)]
 pub struct TwoDoors {
-    pub alloc: Global,
     pub door: Option<ByteLink>,
     pub helper: Option<ByteLink>,
     pub first: Option<Ends<ByteLink>>,
@@ -48,19 +46,19 @@ pub struct TwoDoors {
 impl Station for TwoDoors {
     ghost use Rattle.std.specs.Prelude.{None};
 
-    type Door = ListDoor;
+    type Door = EmptyDoor;
 
     type Link = ByteLink;
 
-    type Clock = ListClock;
+    type Clock = EmptyClock;
 
-    type Salt = ListSalt;
+    type Salt = EmptySalt;
 
     ghost told = { λ _. None };
 
     ghost faults = { λ s. s.faults };
 
-    fn door(&mut self, _uid: u32, _path: &Text, _slot: u32) -> Result<ListDoor, StationRefused> {
+    fn door(&mut self, _uid: u32, _path: &Text, _slot: u32) -> Result<EmptyDoor, StationRefused> {
         Err(StationRefused::NoMemory)
     }
 
@@ -81,15 +79,15 @@ impl Station for TwoDoors {
         }
     }
 
-    fn clock(&mut self) -> ListClock {
-        ListClock::empty(self.alloc)
+    fn clock(&mut self) -> EmptyClock {
+        EmptyClock {}
     }
 
-    fn salt(&mut self) -> ListSalt {
-        ListSalt::empty(self.alloc)
+    fn salt(&mut self) -> EmptySalt {
+        EmptySalt {}
     }
 
-    fn shut(&mut self, _door: ListDoor, _clock: ListClock, _salt: ListSalt) {}
+    fn shut(&mut self, _door: EmptyDoor, _clock: EmptyClock, _salt: EmptySalt) {}
 
     fn hang(&mut self, ends: Ends<ByteLink>)
         ensures count { RoseWhere (has_fault (source_calls ends.input).faults (sink_calls ends.output).faults) self.old.faults self.new.faults }

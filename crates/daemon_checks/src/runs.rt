@@ -1,5 +1,6 @@
 // A run of the daemon over objects in memory.
-use pk_outside::{ByteSink, ByteSource, ListStation, ListTree};
+use empty_station::EmptyStation;
+use pk_outside::{ByteSink, ByteSource, ListTree};
 use pk_types::{List, Text, TextList};
 use polkit_daemon::polkitd;
 use std::alloc::Global;
@@ -84,7 +85,7 @@ pub fn run_over<R: Threads + Wait + Sync>(
         alloc,
         words.as_slice(),
         tree,
-        &mut ListStation::empty(alloc),
+        &mut EmptyStation::new(),
         &mut source,
         &mut sink,
     );

@@ -2,11 +2,12 @@
 //! scenario.
 #![tactic(auto)]
 
-use pk_outside::{DirTree, ListStation};
+use empty_station::EmptyStation;
+use pk_outside::DirTree;
 use std::process::ExitCode;
 
 fn main(rt: HostRuntime) -> ExitCode {
     let mut tree = DirTree::new(&rt);
-    let mut station = ListStation::empty(rt.alloc());
+    let mut station = EmptyStation::new();
     daemon_program::run(&rt, &mut tree, &mut station)
 }

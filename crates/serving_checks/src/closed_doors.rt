@@ -4,8 +4,8 @@ ghost use Rattle.authority_model.specs.Entering.{AreAllowed};
 
 use crate::passes::new_pass;
 use authority_model::Limits;
+use empty_station::EmptyStation;
 use history_lock::{Opened, TableName, open_table};
-use pk_outside::ListStation;
 use pk_types::Text;
 use service_slots::{SlotStop, open_slot, serve_slots, shut_slot};
 use shared_authority::{Kept, LimitsName, Shared};
@@ -43,7 +43,7 @@ fn stop_two_slots<
     requires table { opened ≡ T.table }
 {
     let (shared, mut control) = Shared::<L, T>::start(alloc, limits, opened)?;
-    let mut station = ListStation::empty(alloc);
+    let mut station = EmptyStation::new();
     let path = Text::try_from_bytes(alloc, b"/u")?;
     let one = new_pass(rt, &shared, &mut control)?;
     let two = new_pass(rt, &shared, &mut control)?;

@@ -7,9 +7,10 @@ use crate::wire::{CALL, CALLS, FRONT_OF_ERROR, NO_SUCH_METHOD, NO_SUCH_METHODS, 
 use authority_model::Limits;
 use connection_serve::{End, serve_connection};
 use dbus_values::FaultKind;
+use empty_station::{EmptyClock, EmptySalt};
 use history_lock::{Opened, TableName, open_table};
 use link_handshake::ShakeFault;
-use pk_outside::{ByteSink, ByteSource, ListClock, ListSalt};
+use pk_outside::{ByteSink, ByteSource};
 use shared_authority::{Kept, LimitsName, Shared};
 use std::alloc::Global;
 use std::marker::Brand;
@@ -88,8 +89,8 @@ fn serve_each<
             &mut pass,
             &mut collector,
             1000,
-            &mut ListClock::empty(alloc),
-            &mut ListSalt::empty(alloc),
+            &mut EmptyClock {},
+            &mut EmptySalt {},
             &mut source,
             &mut sink,
         );
