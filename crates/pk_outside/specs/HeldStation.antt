@@ -14,6 +14,10 @@ use Rattle.pk_outside.specs.declared.memory.station.ListStation.{ListStation}
 abbrev pub door_links : DoorPlan → List (List ℕ)
 door_links plan = map link_bytes plan.links
 
+-- The numbers of the calls of `accept` of a door that are to fail.
+abbrev pub door_failing : DoorPlan → List ℕ
+door_failing plan = plan.failing.items
+
 -- What a station tells that begins with this plan.
 abbrev pub plan_told : StationPlan → StationTold
 plan_told plan = record {
@@ -39,6 +43,10 @@ station_told station = record {
 -- How many faults a station counted.
 abbrev pub station_faults : ListStation → ℕ
 station_faults station = station.faults
+
+-- For each door that it will make the numbers of the calls of `accept` that are to fail.
+abbrev pub failing_accepts : ListStation → List (List ℕ)
+failing_accepts station = map door_failing station.doors.items
 
 -- Its calls of `door`.
 abbrev pub calls_of_door : ListStation → Counted

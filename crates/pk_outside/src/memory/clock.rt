@@ -72,7 +72,8 @@ fn cap(numbers: &mut [u64])
     }
 }
 
-/// A clock in memory, which gives its readings, and then 0.
+/// A clock in memory, which gives its readings, and then 0. It tells all that it gave in every
+/// state: its readings are kept, and the zeros behind them are counted by clauses alone.
 #[derive(Drop)]
 pub struct ListClock {
     readings: Readings,
@@ -133,7 +134,8 @@ impl Clock for ListClock {
     }
 }
 
-/// Random words in memory: it gives its words, and then 0.
+/// Random words in memory: it gives its words, and then 0. It tells all that it gave in every state,
+/// as a clock does.
 #[derive(Drop)]
 pub struct ListSalt {
     words: List<u128>,

@@ -36,6 +36,9 @@ impl DoorPlan {
 
 /// A door in memory, which gives the links of its plan and keeps what comes back. A call that fails
 /// leaves the links.
+///
+/// It tells all of this in every state. A link that comes back, even one of another door, is kept in
+/// the seat that it brings, so that there is always room for it.
 #[derive(Drop)]
 pub struct ListDoor {
     uid: u32,

@@ -16,7 +16,7 @@ struct Node<T> {
 
 /// The memory in which one item will be kept.
 #[derive(Drop)]
-pub struct Seat<T> {
+pub(crate) struct Seat<T> {
     node: Box<Node<T>>,
 }
 
@@ -35,7 +35,7 @@ impl<T: Drop> Seat<T> {
 }
 
 /// What came back, in order. It takes no memory as it grows: each item comes with its seat, so that
-/// it never is without room. Contracts see it as the list of its items.
+/// there is always room for one more. Contracts see it as the list of its items.
 pub struct Returned<T> {
     last: Option<Box<Node<T>>>,
 }

@@ -1,5 +1,5 @@
 // A station in memory, which gives what its plan says and keeps what comes back.
-ghost use Rattle.std.specs.Prelude.{◌≡◌, ◌≤◌, ◌||◌, [], Some, IfOk, OnErr, map, length, nat_eq, nat_lt};
+ghost use Rattle.std.specs.Prelude.{◌≡◌, ◌≤◌, ◌||◌, [], Some, IfOk, OnOk, OnErr, map, length, nat_eq, nat_lt};
 ghost use Rattle.pk_outside.specs.Causes.{Rose, RoseWhere};
 ghost use Rattle.pk_outside.specs.Held.{source_calls, sink_calls};
 ghost use Rattle.pk_outside.specs.Memory.{fails_next, one_call};
@@ -73,13 +73,14 @@ pub struct ListStation {
 }
 
 impl ListStation {
-    ghost use Rattle.pk_outside.specs.HeldStation.{door_links, plan_told, station_told, station_faults, calls_of_door, calls_of_dial, shut_doors, hung_links};
+    ghost use Rattle.pk_outside.specs.HeldStation.{door_links, door_failing, plan_told, station_told, station_faults, failing_accepts, calls_of_door, calls_of_dial, shut_doors, hung_links};
 
     /// A station that will give what the plan says. It counted no fault. It takes no memory.
     pub fn new(alloc: Global, plan: StationPlan) -> Self
         ensures told { station_told result ≡ plan_told plan }
         ensures doors { calls_of_door result ≡ record { made = 0; faults = 0; failing = plan.failing_doors.items } }
         ensures dials { calls_of_dial result ≡ record { made = 0; faults = 0; failing = plan.failing_dials.items } }
+        ensures accepts { failing_accepts result ≡ map door_failing plan.doors }
         ensures sound { station_faults result ≡ 0 }
     {
         ListStation {
@@ -96,11 +97,12 @@ impl ListStation {
         }
     }
 
-    /// A station that has nothing to give, and whose doors can be made. It takes no memory.
+    /// A station that has nothing to give: its doors have no link. It takes no memory.
     pub fn empty(alloc: Global) -> Self
         ensures told { station_told result ≡ record { doors = []; links = []; clocks = []; salts = []; shut = []; hung = [] } }
         ensures doors { calls_of_door result ≡ record { made = 0; faults = 0; failing = [] } }
         ensures dials { calls_of_dial result ≡ record { made = 0; faults = 0; failing = [] } }
+        ensures accepts { failing_accepts result ≡ [] }
         ensures sound { station_faults result ≡ 0 }
     {
         ListStation::new(alloc, StationPlan::empty(alloc))
@@ -150,6 +152,8 @@ impl ListStation {
     fn next_door(&mut self) -> DoorPlan
         ensures plan { door_links result ≡ first_list (station_told self.old).doors }
         ensures rest { station_told self.new ≡ record (station_told self.old) { doors = other_lists (station_told self.old).doors } }
+        ensures failing { result.failing.items ≡ first_list (failing_accepts self.old) }
+        ensures failing_later { failing_accepts self.new ≡ other_lists (failing_accepts self.old) }
         ensures count { station_faults self.new ≡ station_faults self.old }
         ensures doors { calls_of_door self.new ≡ calls_of_door self.old }
         ensures dials { calls_of_dial self.new ≡ calls_of_dial self.old }
@@ -168,7 +172,7 @@ impl Station for ListStation {
     ghost use Rattle.pk_outside.specs.HeldClock.{clock_left, clock_gave, salt_left, salt_gave};
     ghost use Rattle.pk_outside.specs.HeldLink.{link_bytes, link_hung, link_origin};
     ghost use Rattle.pk_outside.specs.HeldDoor.{door_told, door_uid, door_calls, door_back};
-    ghost use Rattle.pk_outside.specs.HeldStation.{door_links, station_told, station_faults, calls_of_door, calls_of_dial};
+    ghost use Rattle.pk_outside.specs.HeldStation.{door_links, station_told, station_faults, failing_accepts, calls_of_door, calls_of_dial};
 
     type Door = ListDoor;
 
@@ -193,6 +197,9 @@ impl Station for ListStation {
         ensures door { IfOk result (λ door. MakesDoor uid path.now slot (Some (station_told self.old)) (Some (station_told self.new)) (Some (door_told door))) }
         ensures owner { IfOk result (λ door. door_uid door ≡ uid) }
         ensures count { IfOk result (λ door. (door_calls door).faults ≡ 0) }
+        ensures accepts { IfOk result (λ door. door_calls door ≡ record { made = 0; faults = 0; failing = first_list (failing_accepts self.old) }) }
+        ensures accepts_later { OnOk result (failing_accepts self.new ≡ other_lists (failing_accepts self.old)) }
+        ensures accepts_kept { OnErr result (failing_accepts self.new ≡ failing_accepts self.old) }
         ensures err { OnErr result (Some (station_told self.new) ≡ Some (station_told self.old)) }
         ensures cause { StationCause (station_faults self.old) (station_faults self.new) result }
         ensures listed { station_failed result ≡ fails_next (calls_of_door self.old) }
@@ -218,6 +225,7 @@ impl Station for ListStation {
         ensures listed { station_failed result ≡ (fails_next (calls_of_dial self.old) || nat_eq (length (station_told self.old).links) 0) }
         ensures counted { calls_of_dial self.new ≡ one_call (calls_of_dial self.old) (station_failed result) }
         ensures doors { calls_of_door self.new ≡ calls_of_door self.old }
+        ensures accepts { failing_accepts self.new ≡ failing_accepts self.old }
     {
         if self.dial_calls.is_failing() || self.links.is_empty() {
             self.dial_calls.fail();
@@ -228,10 +236,10 @@ impl Station for ListStation {
         let Ok(path) = path.try_copy() else {
             return Err(StationRefused::NoMemory);
         };
-        match self.links.pop_front() {
-            Some(link) => Ok(link.dialled(path)),
-            None => Err(StationRefused::NoMemory),
-        }
+        let Some(link) = self.links.pop_front() else {
+            unreachable!()
+        };
+        Ok(link.dialled(path))
     }
 
     fn clock(&mut self) -> ListClock
@@ -239,6 +247,7 @@ impl Station for ListStation {
         ensures count { station_faults self.new ≡ station_faults self.old }
         ensures doors { calls_of_door self.new ≡ calls_of_door self.old }
         ensures dials { calls_of_dial self.new ≡ calls_of_dial self.old }
+        ensures accepts { failing_accepts self.new ≡ failing_accepts self.old }
     {
         match self.clocks.pop_front() {
             Some(readings) => ListClock::new(readings),
@@ -251,6 +260,7 @@ impl Station for ListStation {
         ensures count { station_faults self.new ≡ station_faults self.old }
         ensures doors { calls_of_door self.new ≡ calls_of_door self.old }
         ensures dials { calls_of_dial self.new ≡ calls_of_dial self.old }
+        ensures accepts { failing_accepts self.new ≡ failing_accepts self.old }
     {
         match self.salts.pop_front() {
             Some(words) => ListSalt::new(words),
@@ -263,6 +273,7 @@ impl Station for ListStation {
         ensures count { RoseWhere (nat_lt 0 (door_calls door).faults) (station_faults self.old) (station_faults self.new) }
         ensures doors { calls_of_door self.new ≡ calls_of_door self.old }
         ensures dials { calls_of_dial self.new ≡ calls_of_dial self.old }
+        ensures accepts { failing_accepts self.new ≡ failing_accepts self.old }
     {
         let failed = door.faults() > 0;
         let (door, seat) = door.come_back(clock, salt);
@@ -276,6 +287,7 @@ impl Station for ListStation {
         ensures count { RoseWhere (has_fault (source_calls ends.input).faults (sink_calls ends.output).faults) (station_faults self.old) (station_faults self.new) }
         ensures doors { calls_of_door self.new ≡ calls_of_door self.old }
         ensures dials { calls_of_dial self.new ≡ calls_of_dial self.old }
+        ensures accepts { failing_accepts self.new ≡ failing_accepts self.old }
     {
         let failed = has_fault(&ends);
         let (link, seat) = ends.output.come_back(ends.input);
