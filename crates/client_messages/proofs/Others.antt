@@ -7,7 +7,7 @@ use Rattle.std.specs.Prelude.{if◌then◌else◌, is_none, codes}
 use Rattle.std.specs.Int.{w32}
 use Rattle.std.specs.List.{list_any}
 use Rattle.std.specs.Str.{bytes_eq, is_utf8}
-use Rattle.pk_types.specs.Text.{IsText, text_bad, bad_byte_fault}
+use Rattle.pk_types.specs.Text.{IsText, NoZero, text_bad, bad_byte_fault}
 use Rattle.pk_types.specs.declared.text.TextFault.TheVariants as fault
 use Rattle.pk_types.specs.declared.values.Pair.{Pair}
 use Rattle.dbus_values.specs.Basics.{gap, is_text}
@@ -20,7 +20,7 @@ use Rattle.authority_calls.specs.Arguments.{go_on, given, chosen, text_of, many}
 use Rattle.authority_calls.specs.Dictionaries.{next_pair}
 use Rattle.authority_calls.specs.Events.{error_name}
 use Rattle.authority_messages.specs.Values.{row, struct, boolean, pairs as pairs_tree}
-use Rattle.authority_messages.proofs.Plain.{NoZero, text_of as text_from}
+use Rattle.pk_types.proofs.Texts.{text_of as text_from}
 use Rattle.client_messages.specs.declared.answer.ClientAnswer.TheVariants as answer
 use Rattle.client_messages.specs.Answers.{verdict, name, read_as, returned, is_serial, answer_of}
 use Rattle.client_messages.specs.Others.{is_answer, is_long, tells_nothing, is_other}

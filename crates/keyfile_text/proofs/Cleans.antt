@@ -8,9 +8,10 @@ use Rattle.std.proofs.lemmas.Bool.{ne_eqb}
 use Rattle.std.proofs.lemmas.Bool.Decides.{nat_tests, Decides-eqb}
 use Rattle.std.proofs.lemmas.List.{take_at, drop_at, get_or_at, take_all}
 use Rattle.std.proofs.lemmas.Str.{IsUtf8-nil, IsUtf8-append, IsUtf8-take, IsUtf8-drop, IsUtf8-from_is_utf8, IsCharBoundary-before_ascii, IsCharBoundary-after_ascii, utf8_valid_len-IsUtf8, IsUtf8-from_ascii}
-use Rattle.pk_types.specs.Text.{IsText, text_bad, place_or_end, bad_byte_fault}
+use Rattle.pk_types.specs.Text.{IsText, NoZero, text_bad, place_or_end, bad_byte_fault}
 use Rattle.pk_types.specs.declared.text.TextFault.TheVariants as fault
-use Rattle.keyfile_text.specs.Bytes.{NoZero, IsClean}
+use Rattle.pk_types.proofs.Texts.{NoZero-append, text_of}
+use Rattle.keyfile_text.specs.Bytes.{IsClean}
 
 NoZero-front : (a b : List ℕ) → NoZero (a ++ b) → NoZero a
 NoZero-front [] b none = tt
@@ -19,10 +20,6 @@ NoZero-front (x ∷ a) b none = (none.0, NoZero-front a b none.1)
 NoZero-end : (a b : List ℕ) → NoZero (a ++ b) → NoZero b
 NoZero-end [] b none = none
 NoZero-end (x ∷ a) b none = NoZero-end a b none.1
-
-NoZero-append : (a b : List ℕ) → NoZero a → NoZero b → NoZero (a ++ b)
-NoZero-append [] b left right = right
-NoZero-append (x ∷ a) b left right = (left.0, NoZero-append a b left.1 right)
 
 pub clean-nil : IsClean []
 clean-nil = record { utf8 = IsUtf8-nil; no_zero = tt }
@@ -62,23 +59,12 @@ no_zero : (bytes : List ℕ) → length bytes ≤ prefix_len (λ b. not (b == 0)
 no_zero [] all = tt
 no_zero (b ∷ bytes) all = no_zero_of b bytes (b == 0) refl all (no_zero bytes)
 
-all_pass : (bytes : List ℕ) → NoZero bytes → prefix_len (λ b. not (b == 0)) bytes ≡ length bytes
-all_pass [] none = refl
-all_pass (b ∷ bytes) none =
-    ap (λ t. cond (not t) (1 + prefix_len (λ b. not (b == 0)) bytes) 0) (ne_eqb b 0 none.0) ∙ omega (arith, all_pass bytes none.1)
-
 zero_nowhere : (bytes : List ℕ) → position (λ b. b == 0) bytes ≡ None → NoZero bytes
 zero_nowhere bytes e = no_zero bytes (of (prefix_len (λ b. not (b == 0)) bytes) (nat_lt (prefix_len (λ b. not (b == 0)) bytes) (length bytes)) refl e)
   where
     of : (n : ℕ) (t : Bool) → nat_lt n (length bytes) ≡ t → cond t (Some n) None ≡ None → length bytes ≤ n
     of n true is e = absurd (cc)
     of n false is e = grind (arith, nat_tests)
-
-nowhere_zero : (bytes : List ℕ) → NoZero bytes → position (λ b. b == 0) bytes ≡ None
-nowhere_zero bytes none = of (prefix_len (λ b. not (b == 0)) bytes) (all_pass bytes none)
-  where
-    of : (n : ℕ) → n ≡ length bytes → cond (nat_lt n (length bytes)) (Some n) None ≡ None
-    of n e = grind (arith, nat_tests)
 
 valid_le : (bytes : List ℕ) (n : ℕ) → valid_len_up_to bytes n ≤ n
 valid_le bytes zero = omega arith
@@ -116,23 +102,9 @@ clean_of_bad bytes e =
     let both = bad_none (position (λ b. b == 0) (take (utf8_valid_len bytes) bytes)) (utf8_valid_len bytes) (length bytes) e in
     record { utf8 = utf8_of_valid bytes both.1; no_zero = subst NoZero (take_all (utf8_valid_len bytes) bytes both.1) (zero_nowhere (take (utf8_valid_len bytes) bytes) both.0) }
 
-no_bad : (bytes : List ℕ) → IsClean bytes → text_bad bytes ≡ None
-no_bad bytes clean =
-    ap (λ n. place_or_end (position (λ b. b == 0) (take n bytes)) n (length bytes)) (utf8_valid_len-IsUtf8 bytes clean.utf8)
-    ∙ ap (λ r. place_or_end (position (λ b. b == 0) r) (length bytes) (length bytes)) (take_all (length bytes) bytes (omega arith))
-    ∙ ap (λ o. place_or_end o (length bytes) (length bytes)) (nowhere_zero bytes clean.no_zero)
-    ∙ same (length bytes)
-  where
-    same : (n : ℕ) → (if nat_lt n n then Some n else None) ≡ None
-    same n = grind (arith, nat_tests)
-
 -- and those that may, and are not too many, are a text
 pub text_of_clean : (bytes : List ℕ) → IsClean bytes → length bytes ≤ 65535 → IsText bytes
-text_of_clean bytes clean fits = of (length bytes) fits (text_bad bytes) (no_bad bytes clean)
-  where
-    of : (n : ℕ) → n ≤ 65535 → (o : Option ℕ) → o ≡ None → (if nat_lt 65535 n then Some (fault.TooLong n) else bad_byte_fault o) ≡ None
-    of n fits None e = grind (arith, nat_tests)
-    of n fits (Some at) e = absurd (cc)
+text_of_clean bytes clean fits = text_of bytes clean.utf8 clean.no_zero fits
 
 pub text_is : (bytes : List ℕ) → IsText bytes → IsClean bytes × (length bytes ≤ 65535)
 text_is bytes e = let both = of (length bytes) (nat_lt 65535 (length bytes)) refl (text_bad bytes) refl e in (clean_of_bad bytes both.0, both.1)

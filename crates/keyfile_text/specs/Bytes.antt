@@ -1,6 +1,7 @@
 -- Blanks, cuts, and bytes that may stand in a text.
 use Rattle.std.specs.Prelude.{ℕ, ◌≢◌, ◌==◌, Bool, ◌||◌, ◌&&◌, List, [], ◌∷◌, length, Option, Some, None, if◌then◌else◌}
 use Rattle.std.specs.Str.{IsUtf8}
+use Rattle.pk_types.specs.Text.{NoZero}
 
 -- a space, a tab or a LF
 abbrev pub is_blank_of : ℕ → Bool
@@ -30,11 +31,6 @@ onto_front b (Some (before, behind)) = Some (b ∷ before, behind)
 abbrev pub cut_at : ℕ → List ℕ → Option (List ℕ × List ℕ)
 cut_at at [] = None
 cut_at at (b ∷ bytes) = if b == at then Some ([], bytes) else onto_front b (cut_at at bytes)
-
--- no byte is 0
-abbrev pub NoZero : List ℕ → Type 0
-NoZero [] = Unit {0}
-NoZero (b ∷ bytes) = (b ≢ 0) × NoZero bytes
 
 -- UTF-8 without byte 0
 pub record IsClean (bytes : List ℕ) : Type 0 where

@@ -1,9 +1,14 @@
 -- Which bytes are a text.
-use Rattle.std.specs.Prelude.{◌≡◌, ℕ, ◌==◌, nat_lt, List, length, take, Option, None, Some, Result, Ok, Err, position, if◌then◌else◌}
+use Rattle.std.specs.Prelude.{◌≡◌, ◌≢◌, ℕ, ◌==◌, nat_lt, List, [], ◌∷◌, length, take, Option, None, Some, Result, Ok, Err, position, if◌then◌else◌}
 use Rattle.std.specs.Str.Lossy.{utf8_valid_len}
 use Rattle.pk_types.specs.declared.text.TheConstants.{MAX_TEXT}
 use Rattle.pk_types.specs.declared.text.TextFault.{TextFault}
 use Rattle.pk_types.specs.declared.text.TextFault.TheVariants as text_fault
+
+-- no byte is 0
+abbrev pub NoZero : List ℕ → Type 0
+NoZero [] = Unit {0}
+NoZero (b ∷ bytes) = (b ≢ 0) × NoZero bytes
 
 -- the place that is there, or else the second one unless it is the end
 abbrev pub place_or_end : Option ℕ → ℕ → ℕ → Option ℕ

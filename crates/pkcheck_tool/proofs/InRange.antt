@@ -6,7 +6,7 @@ use Rattle.pk_types.specs.declared.values.Pair.{Pair}
 use Rattle.pk_types.specs.declared.values.Subject.{Subject}
 use Rattle.authority_model.specs.declared.event.Call.TheVariants as call
 use Rattle.authority_messages.specs.Messages.{is_over}
-use Rattle.authority_messages.proofs.Plain.{text_of}
+use Rattle.pk_types.proofs.Texts.{text_of}
 use Rattle.client_messages.specs.Calls.{call_for}
 use Rattle.client_messages.specs.Told.{PairsInRange}
 use Rattle.client_messages.proofs.Short.{short}

@@ -8,7 +8,7 @@ use Rattle.keyfile_text.specs.declared.fault.KeyFaultKind.TheVariants as key
 use Rattle.pkla_files.specs.Faults.{kind_name}
 use Rattle.pkla_files.specs.declared.fault.PklaFaultKind.{PklaFaultKind}
 use Rattle.pkla_files.specs.declared.fault.PklaFaultKind.TheVariants as pkla
-use Rattle.policy_turns.proofs.PlainTexts.{plain_text}
+use Rattle.pk_types.proofs.Texts.{plain_text}
 use Rattle.xml_pieces.specs.declared.fault.XmlFaultKind.{XmlFaultKind}
 use Rattle.xml_pieces.specs.declared.fault.XmlFaultKind.TheVariants as xml
 use Rattle.xml_pieces.specs.Names.{fault_name as xml_fault_name}

@@ -1,4 +1,3 @@
 pub mod Sorting
-pub mod PlainTexts
 pub mod PathTexts
 pub mod Gathered

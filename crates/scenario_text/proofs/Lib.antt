@@ -1,4 +1,4 @@
 pub mod Orders
-pub mod PlainTexts
+pub mod BusNames
 pub mod Reading
 pub mod WordFaults

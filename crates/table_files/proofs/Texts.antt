@@ -2,36 +2,17 @@
 use Rattle.std.proofs.Common.{◌≡◌, ℕ, ◌≤◌, ◌<◌, nat_lt, nat_le, ◌&&◌, Bool, true, false, List, [], ◌∷◌, ◌++◌, length, Option, Some, None, is_none, refl, arith, length-append}
 use Rattle.std.specs.List.{list_all}
 use Rattle.std.proofs.lemmas.Bool.Decides.{nat_tests}
-use Rattle.pk_types.specs.Text.{IsText, text_bad}
+use Rattle.std.specs.Str.{IsUtf8}
+use Rattle.pk_types.specs.Text.{IsText, NoZero, text_bad}
+use Rattle.pk_types.proofs.Texts.{is_plain, plain_utf8}
 use Rattle.keyfile_text.specs.Bytes.{IsClean}
-use Rattle.keyfile_text.proofs.Cleans.{clean-nil, clean-append, clean-byte, clean_of_bad, text_of_clean}
+use Rattle.keyfile_text.proofs.Cleans.{clean-append, clean_of_bad, text_of_clean}
 use Rattle.table_files.specs.Fields.{is_name}
-
--- an ASCII byte other than 0
-abbrev is_plain : ℕ → Bool
-is_plain b = nat_lt 0 b && nat_lt b 128
 
 both : (a b : Bool) → (a && b) ≡ true → (a ≡ true) × (b ≡ true)
 both true true e = (refl, refl)
 both true false e = absurd (cc)
 both false b e = absurd (cc)
-
-plain_byte : (b : ℕ) → is_plain b ≡ true → IsClean (b ∷ [])
-plain_byte b e =
-    let parts = both (nat_lt 0 b) (nat_lt b 128) e in
-    clean-byte b (below b parts.1) (λ z. let low : 0 < b = above b parts.0 in omega arith)
-  where
-    below : (b : ℕ) → nat_lt b 128 ≡ true → b < 128
-    below b e = grind (arith, nat_tests)
-
-    above : (b : ℕ) → nat_lt 0 b ≡ true → 0 < b
-    above b e = grind (arith, nat_tests)
-
-pub plain_clean : (bytes : List ℕ) → list_all is_plain bytes ≡ true → IsClean bytes
-plain_clean [] e = clean-nil
-plain_clean (b ∷ bytes) e =
-    let parts = both (is_plain b) (list_all is_plain bytes) e in
-    clean-append (b ∷ []) bytes (plain_byte b parts.0) (plain_clean bytes parts.1)
 
 no_bad : (o : Option ℕ) → is_none o ≡ true → o ≡ None
 no_bad None e = refl
@@ -49,8 +30,11 @@ name_is name e =
 pub name_text : (name : List ℕ) → is_name name ≡ true → IsText name
 name_text name e = let is = name_is name e in text_of_clean name is.0 (omega (arith, is.1))
 
+plain_clean : {bytes : List ℕ} → IsUtf8 bytes × NoZero bytes → IsClean bytes
+plain_clean both = record { utf8 = both.0; no_zero = both.1 }
+
 -- a short ASCII front and a name behind it
 pub label_text : (front name : List ℕ) → list_all is_plain front ≡ true → length front ≤ 20 → is_name name ≡ true → IsText (front ++ name)
 label_text front name plain short e =
     let is = name_is name e in
-    text_of_clean (front ++ name) (clean-append front name (plain_clean front plain) is.0) (omega (arith, is.1, length-append front name))
+    text_of_clean (front ++ name) (clean-append front name (plain_clean (plain_utf8 front plain)) is.0) (omega (arith, is.1, length-append front name))

@@ -1,6 +1,6 @@
 use Rattle.std.proofs.Common.{refl, arith}
 use Rattle.std.specs.Prelude.{codes}
-use Rattle.policy_turns.proofs.PlainTexts.{plain_text}
+use Rattle.pk_types.proofs.Texts.{plain_text}
 use Rattle.policy_files.proofs.finding.found_in.Goals as goal
 
 pub skipped-requires : goal.skipped-requires

@@ -1,6 +1,6 @@
 use Rattle.std.proofs.Common.{refl, arith}
 use Rattle.std.specs.Prelude.{codes}
-use Rattle.policy_turns.proofs.PlainTexts.{plain_text}
+use Rattle.pk_types.proofs.Texts.{plain_text}
 use Rattle.policy_load.proofs.tables.sessions_in.Goals as goal
 
 pub table-requires-after_bounds : goal.table-requires-after_bounds

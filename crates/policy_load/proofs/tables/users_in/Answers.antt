@@ -1,6 +1,6 @@
 use Rattle.std.proofs.Common.{refl, arith, subst, Err}
 use Rattle.std.specs.Prelude.{codes}
-use Rattle.policy_turns.proofs.PlainTexts.{plain_text}
+use Rattle.pk_types.proofs.Texts.{plain_text}
 use Rattle.table_files.specs.Faults.{IsDueFault}
 use Rattle.table_files.specs.Users.{users_of}
 use Rattle.policy_load.specs.Loads.{table, of_table}

@@ -1,7 +1,7 @@
 use Rattle.std.proofs.Common.{refl, arith, ap, sym, ◌∙◌}
 use Rattle.std.specs.Prelude.{codes}
 use Rattle.policy_turns.specs.Paths.{names_at}
-use Rattle.policy_turns.proofs.PlainTexts.{plain_text}
+use Rattle.pk_types.proofs.Texts.{plain_text}
 use Rattle.policy_turns.proofs.Gathered.{entries_added}
 use Rattle.policy_turns.proofs.turn_order.add_entries.Goals as goal
 

@@ -1,6 +1,6 @@
 use Rattle.std.proofs.Common.{refl, arith, ◌∙◌}
 use Rattle.std.specs.Prelude.{codes}
-use Rattle.policy_turns.proofs.PlainTexts.{plain_text}
+use Rattle.pk_types.proofs.Texts.{plain_text}
 use Rattle.policy_turns.proofs.Gathered.{all_added}
 use Rattle.policy_turns.proofs.turn_order.turns.Goals as goal
 

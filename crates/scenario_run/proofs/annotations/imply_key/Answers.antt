@@ -1,5 +1,5 @@
 use Rattle.std.proofs.Common.{refl, lit≤, codes}
-use Rattle.scenario_text.proofs.PlainTexts.{plain_text}
+use Rattle.pk_types.proofs.Texts.{plain_text}
 use Rattle.scenario_run.proofs.annotations.imply_key.Goals as goal
 
 pub of_known-requires : goal.of_known-requires

@@ -1,5 +1,5 @@
 use Rattle.std.proofs.Common.{refl, lit≤, codes}
-use Rattle.scenario_text.proofs.PlainTexts.{plain_text}
+use Rattle.pk_types.proofs.Texts.{plain_text}
 use Rattle.scenario_text.proofs.caller_lines.fail_words.Goals as goal
 
 pub error_words-requires : goal.error_words-requires

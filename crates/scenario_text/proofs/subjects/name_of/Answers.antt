@@ -1,5 +1,5 @@
 use Rattle.std.proofs.Common.{arith}
-use Rattle.scenario_text.proofs.PlainTexts.{bus_text}
+use Rattle.scenario_text.proofs.BusNames.{bus_text}
 use Rattle.scenario_text.proofs.subjects.name_of.Goals as goal
 
 pub of_known-requires : goal.of_known-requires
