@@ -3,7 +3,7 @@ pub mod Texts
 pub mod Stack
 pub mod Slots
 pub mod Steps
-pub mod Bytes
+pub mod Short
 pub mod Numbers
 pub mod Leaves
 pub mod Walking

@@ -1,5 +1,5 @@
 -- The containers that are open at a place.
-use Rattle.std.specs.Prelude.{ℕ, ◌+◌, ◌<◌, ◌≤◌, List, [], ◌∷◌, length, slice_index_or, Option, Some, None}
+use Rattle.std.specs.Prelude.{ℕ, ◌+◌, ◌<◌, ◌≤◌, Bool, true, false, List, [], ◌∷◌, length, slice_index_or, Option, Some, None}
 use Rattle.dbus_values.specs.declared.frames.Frame.{Frame}
 use Rattle.dbus_values.specs.declared.frames.Frame.TheVariants as frame
 
@@ -41,3 +41,7 @@ outer (f ∷ fs) = fs
 
 abbrev pub AllWithin : List Frame → Type 0
 AllWithin frames = (i : ℕ) (d : Frame) → i < length frames → IsWithin (slice_index_or frames i d)
+
+abbrev pub is_variant : Option Open → Bool
+is_variant (Some (Inner types)) = true
+is_variant _ = false

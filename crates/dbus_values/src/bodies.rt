@@ -10,7 +10,6 @@ use crate::parts::Parts;
 use crate::wire_message::WireMessage;
 
 /// So many parts of a body, which is read by its signature to its last byte.
-#[inline(always)]
 fn body_parts<'a>(
     big: bool,
     left: usize,

@@ -1,7 +1,7 @@
 // The containers that are open, the innermost first.
-ghost use Rattle.std.specs.Prelude.{◌≡◌, ◌<◌, ◌∷◌, length, [], IfSome};
+ghost use Rattle.std.specs.Prelude.{◌≡◌, ◌<◌, ◌∷◌, length, [], Some, IfSome};
 ghost use Rattle.std.specs.Option.{option_map};
-ghost use Rattle.dbus_values.specs.Opened.{opened, innermost, outer, IsWithin};
+ghost use Rattle.dbus_values.specs.Opened.{opened, innermost, outer, is_variant, IsWithin};
 ghost use Rattle.dbus_values.specs.Signatures.{after_item};
 
 use crate::known_items::KnownItems;
@@ -33,6 +33,14 @@ pub enum Frame<'a> {
 }
 
 impl<'a> Frame<'a> {
+    /// Whether it is a variant.
+    #[inline(always)]
+    fn is_variant(&self) -> bool
+        ensures { result ≡ is_variant (Some (opened self.now)) }
+    {
+        matches!(self, Frame::Inner { .. })
+    }
+
     /// How many letters of the signatures at hand stand behind this container.
     fn letters(&self) -> usize {
         match self {
@@ -124,6 +132,18 @@ impl<'a> Frames<'a> {
             None
         } else {
             Some(self.frames[self.len - 1])
+        }
+    }
+
+    /// Whether a variant stands around the innermost.
+    #[inline(always)]
+    pub fn is_in_variant(&self) -> bool
+        ensures { result ≡ is_variant (innermost (outer self.now)) }
+    {
+        if self.len > 1 {
+            self.frames[self.len - 2].is_variant()
+        } else {
+            false
         }
     }
 

@@ -32,7 +32,6 @@ impl<'a> Model for Parts<'a> {
 
 impl<'a> Parts<'a> {
     /// So many parts of the values of a signature.
-    #[inline(always)]
     pub(crate) fn at(big: bool, left: usize, signature: &'a [u8], from: Cursor<'a>) -> Parts<'a>
         requires { Lasts left 64 big (state [] signature.now from.at from.rest.now) }
         ensures parts { result ≡ parts left 64 big (state [] signature.now from.entry.at from.entry.rest.now) }

@@ -1,12 +1,13 @@
 // A walk over values, part by part.
-ghost use Rattle.std.specs.Prelude.{◌≡◌, ◌<◌, ◌≤◌, ◌+◌, ◌-◌, ◌∷◌, [], Ok, Err, MatchResult, length, take, drop};
+ghost use Rattle.std.specs.Prelude.{◌≡◌, ◌<◌, ◌≤◌, ◌+◌, ◌-◌, ◌∷◌, [], false, Some, Ok, Err, MatchResult, length, take, drop, slice_index};
 ghost use Rattle.dbus_values.specs.Reading.{Gives};
 ghost use Rattle.dbus_values.specs.Parts.{piece, spot};
+ghost use Rattle.dbus_values.specs.Parts as part;
 ghost use Rattle.dbus_values.specs.Opened as opened_part;
 ghost use Rattle.dbus_values.specs.Signatures.{after_item, after_type};
 ghost use Rattle.dbus_values.specs.Walk.{state, rest_of, resume, resumed, enter_array, enter_struct, enter_variant, enter_leaf, enter_by, enter_any, enter, enter_entry, enter_item, in_items, in_members, in_key, in_closing, next_in, walked, values_at};
-ghost use Rattle.dbus_values.specs.Opened.{innermost, outer};
-ghost use Rattle.dbus_values.specs.Places.{place, Leads};
+ghost use Rattle.dbus_values.specs.Opened.{innermost, outer, is_variant};
+ghost use Rattle.dbus_values.specs.Places.{place, Leads, ShortLeads};
 
 use crate::basics::{gap, pad, u32_at};
 use crate::class::Class;
@@ -69,9 +70,14 @@ fn rest_of_item<'a>(frames: &mut Frames<'a>, sig: &'a [u8], at: usize) -> Result
     }
 }
 
-/// Closes the variants whose value ends here, and gives the types that are left behind them.
+/// Closes the variants whose value ends here, one after the other.
+#[inline(never)]
 #[tactic(auto, using(crate::proofs::Steps::resume_rules))]
-fn resume<'a>(frames: &mut Frames<'a>, types: &'a [u8], at: usize) -> Result<&'a [u8], Fault>
+fn close_variants<'a>(
+    frames: &mut Frames<'a>,
+    types: &'a [u8],
+    at: usize,
+) -> Result<&'a [u8], Fault>
     ensures exact { MatchResult result
         (λ x. resume frames.old types.now at ≡ Ok (frames.new, x.now))
         (λ e. resume frames.old types.now at ≡ Err e) }
@@ -99,9 +105,30 @@ fn resume<'a>(frames: &mut Frames<'a>, types: &'a [u8], at: usize) -> Result<&'a
     Ok(here)
 }
 
+/// Closes the variants whose value ends here, and gives the types that are left behind them.
+#[inline(always)]
+#[tactic(auto, using(crate::proofs::Steps::resume_rules))]
+fn resume<'a>(frames: &mut Frames<'a>, types: &'a [u8], at: usize) -> Result<&'a [u8], Fault>
+    ensures exact { MatchResult result
+        (λ x. resume frames.old types.now at ≡ Ok (frames.new, x.now))
+        (λ e. resume frames.old types.now at ≡ Err e) }
+{
+    match frames.top() {
+        None => Ok(types),
+        Some(frame) => match frame {
+            Frame::Inner { .. } => close_variants(frames, types, at),
+            Frame::Items { .. } => Ok(types),
+            Frame::Members => Ok(types),
+            Frame::Key => Ok(types),
+            Frame::Value => Ok(types),
+            Frame::Closing => Ok(types),
+        },
+    }
+}
+
 /// A part that ends a value, and what the walk goes on with behind it.
 #[inline(always)]
-#[tactic(auto, using(crate::proofs::Steps::resume_rules), unfolding(crate::specs::Walk::resumed))]
+#[tactic(auto, unfolding(crate::specs::Walk::resumed))]
 fn resumed<'a>(
     walk: &mut Walk<'a>,
     part: Part<'a>,
@@ -110,22 +137,9 @@ fn resumed<'a>(
 ) -> Result<Part<'a>, Fault>
     ensures exact { Leads result walk.new (resumed (piece part.entry) walk.old.frames types.now after.entry.at after.entry.rest.now) }
 {
+    walk.types = resume(&mut walk.frames, types, after.at)?;
     walk.here = after;
-    walk.types = types;
-    match walk.frames.top() {
-        None => Ok(part),
-        Some(frame) => match frame {
-            Frame::Inner { .. } => {
-                walk.types = resume(&mut walk.frames, types, after.at)?;
-                Ok(part)
-            }
-            Frame::Items { .. } => Ok(part),
-            Frame::Members => Ok(part),
-            Frame::Key => Ok(part),
-            Frame::Value => Ok(part),
-            Frame::Closing => Ok(part),
-        },
-    }
+    Ok(part)
 }
 
 /// No type.
@@ -314,38 +328,6 @@ fn enter<'a>(limit: usize, big: bool, walk: &mut Walk<'a>, sig: &'a [u8]) -> Res
     )
 }
 
-/// The same, with a short way for bytes and for structures, of which a body can have most. `Ok(..?)`
-/// lets only what the other way returned lie in memory.
-#[inline(always)]
-#[tactic(auto, using(crate::proofs::Steps::enter_rules))]
-fn enter_short<'a>(
-    limit: usize,
-    big: bool,
-    walk: &mut Walk<'a>,
-    sig: &'a [u8],
-) -> Result<Part<'a>, Fault>
-    requires limit { limit ≤ 64 }
-    requires typed { 1 ≤ length sig.now }
-    ensures exact { Leads result walk.new (enter limit big walk.old.frames sig.now walk.old.here.at walk.old.here.rest.now) }
-{
-    let behind = behind_first(sig);
-    match Class::of(sig[0]) {
-        Class::Byte => {
-            let start = pad(1, walk.here)?;
-            enter_leaf(Class::Byte, big, walk, sig[0], behind, start)
-        }
-        Class::Struct => {
-            let start = pad(8, walk.here)?;
-            if walk.frames.len() < limit {
-                enter_struct(walk, behind, start)
-            } else {
-                Err(Fault::new(FaultKind::Depth, start.at))
-            }
-        }
-        class => Ok(enter_any(class, limit, big, walk, sig[0], behind)?),
-    }
-}
-
 /// The beginning of a dict entry, with the padding before it.
 #[tactic(auto, unfolding(crate::specs::Walk::enter_entry))]
 fn enter_entry<'a>(limit: usize, walk: &mut Walk<'a>, sig: &'a [u8]) -> Result<Part<'a>, Fault>
@@ -379,9 +361,9 @@ fn enter_item<'a>(
         return Err(Fault::new(FaultKind::Text, walk.here.at));
     }
     if sig[0] == b'{' {
-        Ok(enter_entry(limit, walk, behind_first(sig))?)
+        enter_entry(limit, walk, behind_first(sig))
     } else {
-        enter_short(limit, big, walk, sig)
+        enter(limit, big, walk, sig)
     }
 }
 
@@ -402,7 +384,7 @@ fn in_members<'a>(limit: usize, big: bool, walk: &mut Walk<'a>) -> Result<Part<'
         let here = walk.here;
         resumed(walk, Part::Leave { kind: b'(' }, behind_first(sig), here)
     } else {
-        enter_short(limit, big, walk, sig)
+        enter(limit, big, walk, sig)
     }
 }
 
@@ -469,15 +451,15 @@ fn in_items<'a>(
 }
 
 /// The next part.
-#[inline(always)]
+#[inline(never)]
 #[tactic(auto, using(crate::proofs::Steps::next_rules))]
-pub fn next_part<'a>(limit: usize, big: bool, walk: &mut Walk<'a>) -> Result<Part<'a>, Fault>
+fn next_in<'a>(limit: usize, big: bool, walk: &mut Walk<'a>) -> Result<Part<'a>, Fault>
     requires { limit ≤ 64 }
     ensures exact { Leads result walk.new (next_in limit big walk.old.frames walk.old.types.now walk.old.here.at walk.old.here.rest.now) }
 {
     let sig = walk.types;
     match walk.frames.top() {
-        None => Ok(enter(limit, big, walk, sig)?),
+        None => enter(limit, big, walk, sig),
         Some(frame) => match frame {
             Frame::Items {
                 item,
@@ -497,15 +479,153 @@ pub fn next_part<'a>(limit: usize, big: bool, walk: &mut Walk<'a>) -> Result<Par
                 in_items(limit, big, walk, array)
             }
             Frame::Members => in_members(limit, big, walk),
-            Frame::Key => Ok(in_key(limit, big, walk)?),
+            Frame::Key => in_key(limit, big, walk),
             Frame::Value => {
                 walk.frames.pop();
                 walk.frames.push(Frame::Closing);
-                Ok(enter(limit, big, walk, sig)?)
+                enter(limit, big, walk, sig)
             }
-            Frame::Closing => Ok(in_closing(walk)?),
-            Frame::Inner { .. } => Ok(enter(limit, big, walk, sig)?),
+            Frame::Closing => in_closing(walk),
+            Frame::Inner { .. } => enter(limit, big, walk, sig),
         },
+    }
+}
+
+/// A byte, behind which these types are left.
+#[inline(always)]
+fn byte_part<'a>(walk: &mut Walk<'a>, types: &'a [u8]) -> Part<'a>
+    requires { 1 ≤ length walk.old.here.rest.now }
+    ensures part { piece result ≡ part.Number 121 (slice_index walk.old.here.rest.now 0) }
+    ensures left { place walk.new ≡ state walk.old.frames types.now (walk.old.here.at + 1) (drop 1 walk.old.here.rest.now) }
+{
+    let value = u64::from(walk.here.rest[0]);
+    walk.types = types;
+    walk.here = walk.here.ahead(1);
+    Part::Number { kind: b'y', value }
+}
+
+/// The first part of a value of the first type, where it is a byte, or a structure that needs no
+/// padding.
+#[inline(always)]
+#[tactic(auto, using(crate::proofs::Short::enter_rules))]
+fn short_enter<'a>(limit: usize, big: bool, walk: &mut Walk<'a>, sig: &'a [u8]) -> Option<Part<'a>>
+    requires limit { limit ≤ 64 }
+    requires typed { 1 ≤ length sig.now }
+    requires plain { is_variant (innermost walk.old.frames) ≡ false }
+    ensures exact { ShortLeads result walk.new walk.old (enter limit big walk.old.frames sig.now walk.old.here.at walk.old.here.rest.now) }
+{
+    let types = behind_first(sig);
+    if sig[0] == b'y' && !walk.here.rest.is_empty() {
+        return Some(byte_part(walk, types));
+    }
+    if sig[0] == b'('
+        && !types.is_empty()
+        && types[0] != b')'
+        && gap(8, walk.here.at) == 0
+        && walk.frames.len() < limit
+    {
+        walk.frames.push(Frame::Members);
+        walk.types = types;
+        return Some(Part::Enter { kind: b'(' });
+    }
+    None
+}
+
+/// The next item of an array or its end, in short.
+#[inline(always)]
+#[tactic(auto, using(crate::proofs::Short::item_rules))]
+fn short_item<'a>(
+    limit: usize,
+    big: bool,
+    walk: &mut Walk<'a>,
+    array: Array<'a>,
+) -> Option<Part<'a>>
+    requires limit { limit ≤ 64 }
+    requires open { Some (opened_part.Items array.item.now array.types.now array.behind.at array.behind.rest.now) ≡ innermost walk.old.frames }
+    ensures exact { ShortLeads result walk.new walk.old (next_in limit big walk.old.frames walk.old.types.now walk.old.here.at walk.old.here.rest.now) }
+{
+    if !walk.types.is_empty() || array.item.is_empty() || array.item[0] == b'{' {
+        return None;
+    }
+    if !walk.here.rest.is_empty() {
+        return short_enter(limit, big, walk, array.item);
+    }
+    if walk.frames.is_in_variant() {
+        return None;
+    }
+    walk.frames.pop();
+    walk.types = array.types;
+    walk.here = array.behind;
+    Some(Part::Leave { kind: b'a' })
+}
+
+/// The next member of a structure or its end, in short.
+#[inline(always)]
+#[tactic(auto, using(crate::proofs::Short::member_rules))]
+fn short_member<'a>(limit: usize, big: bool, walk: &mut Walk<'a>) -> Option<Part<'a>>
+    requires limit { limit ≤ 64 }
+    requires open { Some opened_part.Members ≡ innermost walk.old.frames }
+    ensures exact { ShortLeads result walk.new walk.old (next_in limit big walk.old.frames walk.old.types.now walk.old.here.at walk.old.here.rest.now) }
+{
+    let sig = walk.types;
+    if sig.is_empty() {
+        return None;
+    }
+    if sig[0] != b')' {
+        return short_enter(limit, big, walk, sig);
+    }
+    if walk.frames.is_in_variant() {
+        return None;
+    }
+    walk.frames.pop();
+    walk.types = behind_first(sig);
+    Some(Part::Leave { kind: b'(' })
+}
+
+/// The next part, where a look at the types tells it.
+#[inline(always)]
+fn next_short<'a>(limit: usize, big: bool, walk: &mut Walk<'a>) -> Option<Part<'a>>
+    requires { limit ≤ 64 }
+    ensures exact { ShortLeads result walk.new walk.old (next_in limit big walk.old.frames walk.old.types.now walk.old.here.at walk.old.here.rest.now) }
+{
+    match walk.frames.top() {
+        None => None,
+        Some(frame) => match frame {
+            Frame::Items {
+                item,
+                types,
+                behind,
+                outside,
+            } => {
+                let behind = Cursor {
+                    at: behind,
+                    rest: outside,
+                };
+                let array = Array {
+                    item,
+                    types,
+                    behind,
+                };
+                short_item(limit, big, walk, array)
+            }
+            Frame::Members => short_member(limit, big, walk),
+            Frame::Key => None,
+            Frame::Value => None,
+            Frame::Closing => None,
+            Frame::Inner { .. } => None,
+        },
+    }
+}
+
+/// The next part, found in short where that serves.
+#[inline(always)]
+pub fn next_part<'a>(limit: usize, big: bool, walk: &mut Walk<'a>) -> Result<Part<'a>, Fault>
+    requires { limit ≤ 64 }
+    ensures exact { Leads result walk.new (next_in limit big walk.old.frames walk.old.types.now walk.old.here.at walk.old.here.rest.now) }
+{
+    match next_short(limit, big, walk) {
+        Some(part) => Ok(part),
+        None => Ok(next_in(limit, big, walk)?),
     }
 }
 

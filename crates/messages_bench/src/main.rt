@@ -9,7 +9,7 @@ use std::time::Instant;
 use std::{env, fs, io};
 
 /// More parts than a message of 16 MiB has.
-const MOST_PARTS: usize = 67108864;
+const MOST_PARTS: usize = 268435456;
 
 /// The number of parts that are left, and the sum of the lengths of their texts.
 fn count(parts: &mut Parts) -> (usize, usize) {
