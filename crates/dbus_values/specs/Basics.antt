@@ -54,9 +54,9 @@ is_text bytes = not (list_any (λ b. b == 0) bytes) && is_utf8 bytes
 -- a text behind its length
 unfoldable pub text_at : Bool → ℕ → List ℕ → Result (List ℕ × Spot) Fault
 text_at big at bytes = do
-  n ← number_at big w32 at bytes
-  t ← ended at n.0 n.1.at n.1.rest
-  if is_text t.0 then Ok t else bad fault.Text at
+  (n, begin) ← number_at big w32 at bytes
+  (text, behind) ← ended at n begin.at begin.rest
+  if is_text text then Ok (text, behind) else bad fault.Text at
 
 -- a letter, a digit or _
 abbrev pub is_path_byte : ℕ → Bool
@@ -76,22 +76,22 @@ is_path (b ∷ c ∷ path) = (b == 47) && path_goes_on true (c ∷ path)
 -- a signature behind its length, which is one byte
 unfoldable pub signature_at : ℕ → List ℕ → Result (List ℕ × Spot) Fault
 signature_at at bytes = do
-  n ← byte_at at bytes
-  t ← ended at n.0 n.1.at n.1.rest
-  if is_signature t.0 then Ok t else bad fault.Text at
+  (n, begin) ← byte_at at bytes
+  (sig, behind) ← ended at n begin.at begin.rest
+  if is_signature sig then Ok (sig, behind) else bad fault.Text at
 
 -- a text, an object path or a signature, from its first byte
 unfoldable pub string_at : Class → Bool → ℕ → List ℕ → Result (List ℕ × Spot) Fault
 string_at class.Text big at bytes = text_at big at bytes
-string_at class.Path big at bytes = text_at big at bytes >>= λ t. if is_path t.0 then Ok t else bad fault.Text at
+string_at class.Path big at bytes = text_at big at bytes >>= λ (path, behind). if is_path path then Ok (path, behind) else bad fault.Text at
 string_at class.Signature big at bytes = signature_at at bytes
 string_at _ big at bytes = bad fault.Text at
 
 -- a value of a basic type, from its first byte
 unfoldable pub leaf_at : Class → Bool → ℕ → ℕ → List ℕ → Result (Piece × Spot) Fault
-leaf_at class.Byte big c at bytes = byte_at at bytes >>= λ n. Ok (part.Number c n.0, n.1)
-leaf_at class.Half big c at bytes = number_at big w16 at bytes >>= λ n. Ok (part.Number c n.0, n.1)
-leaf_at class.Boolean big c at bytes = number_at big w32 at bytes >>= λ n. if nat_lt n.0 2 then Ok (part.Number c n.0, n.1) else bad fault.Bool at
-leaf_at class.Word big c at bytes = number_at big w32 at bytes >>= λ n. Ok (part.Number c n.0, n.1)
-leaf_at class.Long big c at bytes = number_at big w64 at bytes >>= λ n. Ok (part.Number c n.0, n.1)
-leaf_at k big c at bytes = string_at k big at bytes >>= λ t. Ok (part.Text c t.0, t.1)
+leaf_at class.Byte big c at bytes = byte_at at bytes >>= λ (n, behind). Ok (part.Number c n, behind)
+leaf_at class.Half big c at bytes = number_at big w16 at bytes >>= λ (n, behind). Ok (part.Number c n, behind)
+leaf_at class.Boolean big c at bytes = number_at big w32 at bytes >>= λ (n, behind). if nat_lt n 2 then Ok (part.Number c n, behind) else bad fault.Bool at
+leaf_at class.Word big c at bytes = number_at big w32 at bytes >>= λ (n, behind). Ok (part.Number c n, behind)
+leaf_at class.Long big c at bytes = number_at big w64 at bytes >>= λ (n, behind). Ok (part.Number c n, behind)
+leaf_at k big c at bytes = string_at k big at bytes >>= λ (text, behind). Ok (part.Text c text, behind)

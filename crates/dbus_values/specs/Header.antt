@@ -60,22 +60,22 @@ type_code c = if c == 1 then 111 else (if (c == 5) || (c == 9) then 117 else (if
 unfoldable pub number_field : Bool → ℕ → ℕ → Header → ℕ → List ℕ → Result (Header × Spot) Fault
 number_field big start c h at bytes = do
   p ← pad 4 at bytes
-  n ← number_at big w32 p.at p.rest
-  if (c == 5) && (n.0 == 0) then bad fault.Fields start else Ok (put_number h c n.0, n.1)
+  (n, behind) ← number_at big w32 p.at p.rest
+  if (c == 5) && (n == 0) then bad fault.Fields start else Ok (put_number h c n, behind)
 
 -- a field of a text type
 unfoldable pub text_field : Bool → ℕ → Header → ℕ → List ℕ → Result (Header × Spot) Fault
 text_field big c h at bytes = do
   p ← pad (align_of (class_of (type_code c))) at bytes
-  t ← string_at (class_of (type_code c)) big p.at p.rest
-  Ok (put_text h c t.0, t.1)
+  (text, behind) ← string_at (class_of (type_code c)) big p.at p.rest
+  Ok (put_text h c text, behind)
 
 -- a known field behind its code: a variant of the field's type
 unfoldable pub known_field : Bool → ℕ → ℕ → Header → ℕ → List ℕ → Result (Header × Spot) Fault
 known_field big start c h at bytes = do
-  s ← signature_at at bytes
-  if not (length s.0 == 1) || not (slice_index s.0 0 == type_code c) then bad fault.Fields start else
-      (if type_code c == 117 then number_field big start c h s.1.at s.1.rest else text_field big c h s.1.at s.1.rest)
+  (sig, value) ← signature_at at bytes
+  if not (length sig == 1) || not (slice_index sig 0 == type_code c) then bad fault.Fields start else
+      (if type_code c == 117 then number_field big start c h value.at value.rest else text_field big c h value.at value.rest)
 
 -- An unknown field behind its code: a variant, which is passed over. It stands in an array and a structure,
 -- so at most 62 more containers stand inside each other, the variant too.
@@ -86,14 +86,14 @@ passed_field big at bytes = values_at 62 big (118 ∷ []) at bytes >>= λ w. Ok 
 unfoldable pub field_at : Bool → Header → ℕ → List ℕ → Result (Header × Spot) Fault
 field_at big h at bytes = do
   p ← pad 8 at bytes
-  c ← byte_at p.at p.rest
-  if (c.0 == 0) || has h c.0 then bad fault.Fields p.at else
-      (if nat_lt c.0 10 then known_field big p.at c.0 h c.1.at c.1.rest else (passed_field big c.1.at c.1.rest >>= λ x. Ok (h, x)))
+  (c, value) ← byte_at p.at p.rest
+  if (c == 0) || has h c then bad fault.Fields p.at else
+      (if nat_lt c 10 then known_field big p.at c h value.at value.rest else (passed_field big value.at value.rest >>= λ behind. Ok (h, behind)))
 
 -- The fields up to the end of the bytes. The steps count down.
 unfoldable pub fields_at : ℕ → Bool → Header → ℕ → List ℕ → Result Header Fault
 fields_at zero big h at bytes = if length bytes == 0 then Ok h else bad fault.Length at
-fields_at (suc n) big h at bytes = if length bytes == 0 then Ok h else field_at big h at bytes >>= λ x. fields_at n big x.0 x.1.at x.1.rest
+fields_at (suc n) big h at bytes = if length bytes == 0 then Ok h else field_at big h at bytes >>= λ (with_field, behind). fields_at n big with_field behind.at behind.rest
 
 -- Whether a field that such a message needs lacks: a call needs PATH and MEMBER, a return REPLY_SERIAL, an
 -- error ERROR_NAME and REPLY_SERIAL, a signal PATH, INTERFACE and MEMBER.

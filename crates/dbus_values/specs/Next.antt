@@ -72,7 +72,7 @@ shown s h n p = record {
 }
 
 abbrev pub message_on : Start → Result (Header × (ℕ × Spot)) Fault → Answer
-message_on s (Ok x) = Whole (shown s x.0 x.1.0 x.1.1) (total s)
+message_on s (Ok (h, (n, body))) = Whole (shown s h n body) (total s)
 message_on s (Err e) = Bad e.kind e.at
 
 abbrev pub start_on : List ℕ → Result Start Stop → Answer

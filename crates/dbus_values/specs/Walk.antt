@@ -43,17 +43,17 @@ resume (open_part.Closing ∷ fs) types at = Ok (open_part.Closing ∷ fs, types
 
 -- a part, and the walk behind the value that it ends
 unfoldable pub resumed : Piece → List Open → List ℕ → ℕ → List ℕ → Result (Piece × State) Fault
-resumed p fs types at rest = resume fs types at >>= λ o. Ok (p, state o.0 o.1 at rest)
+resumed p fs types at rest = resume fs types at >>= λ (left, behind). Ok (p, state left behind at rest)
 
 -- The beginning of an array. Its length is judged before the padding behind it, which it doesn't count.
 -- The bytes of its items are apart from those behind it.
 unfoldable pub enter_array : Bool → List Open → List ℕ → ℕ → List ℕ → Result (Piece × State) Fault
 enter_array big fs sig at bytes = do
   end ← rest_of (after_item sig) at
-  n ← number_at big w32 at bytes
-  if nat_lt (length n.1.rest) (gap (item_align sig) n.1.at + n.0) then bad fault.Length at else (do
-    p ← pad (item_align sig) n.1.at n.1.rest
-    Ok (part.Enter 97, state (open_part.Items (take (length sig - length end) sig) end (p.at + n.0) (drop n.0 p.rest) ∷ fs) [] p.at (take n.0 p.rest)))
+  (n, begin) ← number_at big w32 at bytes
+  if nat_lt (length begin.rest) (gap (item_align sig) begin.at + n) then bad fault.Length at else (do
+    p ← pad (item_align sig) begin.at begin.rest
+    Ok (part.Enter 97, state (open_part.Items (take (length sig - length end) sig) end (p.at + n) (drop n p.rest) ∷ fs) [] p.at (take n p.rest)))
 
 -- the beginning of a structure, which has at least one member
 unfoldable pub enter_struct : List Open → List ℕ → ℕ → List ℕ → Result (Piece × State) Fault
@@ -63,13 +63,13 @@ enter_struct fs (c ∷ sig) at bytes = if c == 41 then bad fault.Text at else Ok
 -- the signature of a variant, which is one complete type
 unfoldable pub enter_variant : List Open → List ℕ → ℕ → List ℕ → Result (Piece × State) Fault
 enter_variant fs sig at bytes = do
-  s ← signature_at at bytes
-  end ← rest_of (after_type s.0) at
-  if length end == 0 then Ok (part.Variant s.0, state (open_part.Inner sig ∷ fs) s.0 s.1.at s.1.rest) else bad fault.Text at
+  (inner, value) ← signature_at at bytes
+  end ← rest_of (after_type inner) at
+  if length end == 0 then Ok (part.Variant inner, state (open_part.Inner sig ∷ fs) inner value.at value.rest) else bad fault.Text at
 
 -- a value of a basic type, from its first byte
 abbrev pub enter_leaf : Class → Bool → List Open → ℕ → List ℕ → ℕ → List ℕ → Result (Piece × State) Fault
-enter_leaf k big fs c sig at bytes = leaf_at k big c at bytes >>= λ x. resumed x.0 fs sig x.1.at x.1.rest
+enter_leaf k big fs c sig at bytes = leaf_at k big c at bytes >>= λ (leaf, behind). resumed leaf fs sig behind.at behind.rest
 
 -- the first part of a value from its first byte, by the class of its type code
 abbrev pub enter_by : Class → ℕ → Bool → List Open → ℕ → List ℕ → ℕ → List ℕ → Result (Piece × State) Fault
@@ -154,7 +154,7 @@ unfoldable pub walk : ℕ → ℕ → ℕ → Bool → State → Result Walked F
 walk zero so_far limit big s = bad fault.Length s.at
 walk (suc n) so_far limit big s =
     if is_done s then Ok (record { parts = so_far; at = s.at; rest = s.rest })
-    else step limit big s >>= λ x. walk n (so_far + 1) limit big x.1
+    else step limit big s >>= λ (_, next). walk n (so_far + 1) limit big next
 
 -- A message has fewer parts than this.
 abbrev pub most_parts : ℕ
@@ -165,7 +165,7 @@ abbrev pub values_at : ℕ → Bool → List ℕ → ℕ → List ℕ → Result
 values_at limit big sig at bytes = walk most_parts 0 limit big (state [] sig at bytes)
 
 abbrev pub go_on : (State → List Piece) → Result (Piece × State) Fault → List Piece
-go_on again (Ok x) = x.0 ∷ again x.1
+go_on again (Ok (part, next)) = part ∷ again next
 go_on again (Err e) = []
 
 -- so many parts from here
@@ -174,7 +174,7 @@ parts zero limit big s = []
 parts (suc n) limit big s = go_on (parts n limit big) (step limit big s)
 
 abbrev pub steps_on : (State → Type 0) → Result (Piece × State) Fault → Type 0
-steps_on again (Ok x) = again x.1
+steps_on again (Ok (_, next)) = again next
 steps_on again (Err e) = ⊥
 
 -- there are so many parts from here

@@ -65,7 +65,7 @@ pub fn pad(n: usize, from: Cursor) -> Result<Cursor, Fault>
 /// A byte.
 #[tactic(auto, unfolding(crate::specs::Basics::byte_at))]
 pub fn byte_at(from: Cursor) -> Result<(u8, Cursor), Fault>
-    ensures exact { Gives (λ x. (x.0, spot x.1)) result (byte_at from.entry.at from.entry.rest.now) }
+    ensures exact { Gives (λ (n, behind). (n, spot behind)) result (byte_at from.entry.at from.entry.rest.now) }
 {
     match from.rest {
         [] => Err(Fault::new(FaultKind::Length, from.at)),
@@ -82,7 +82,7 @@ pub fn byte_at(from: Cursor) -> Result<(u8, Cursor), Fault>
 /// A number of two bytes, unsigned, in the byte order of the message.
 #[tactic(auto, unfolding(crate::specs::Basics::number_at))]
 pub fn u16_at(big: bool, from: Cursor) -> Result<(u16, Cursor), Fault>
-    ensures exact { Gives (λ x. (x.0, spot x.1)) result (number_at big w16 from.entry.at from.entry.rest.now) }
+    ensures exact { Gives (λ (n, behind). (n, spot behind)) result (number_at big w16 from.entry.at from.entry.rest.now) }
 {
     if from.rest.len() < 2 {
         return Err(Fault::new(FaultKind::Length, from.at));
@@ -106,7 +106,7 @@ pub fn u16_at(big: bool, from: Cursor) -> Result<(u16, Cursor), Fault>
 /// A number of four bytes, unsigned, in the byte order of the message.
 #[tactic(auto, unfolding(crate::specs::Basics::number_at))]
 pub fn u32_at(big: bool, from: Cursor) -> Result<(u32, Cursor), Fault>
-    ensures exact { Gives (λ x. (x.0, spot x.1)) result (number_at big w32 from.entry.at from.entry.rest.now) }
+    ensures exact { Gives (λ (n, behind). (n, spot behind)) result (number_at big w32 from.entry.at from.entry.rest.now) }
 {
     if from.rest.len() < 4 {
         return Err(Fault::new(FaultKind::Length, from.at));
@@ -130,7 +130,7 @@ pub fn u32_at(big: bool, from: Cursor) -> Result<(u32, Cursor), Fault>
 /// A number of eight bytes, unsigned, in the byte order of the message.
 #[tactic(auto, unfolding(crate::specs::Basics::number_at))]
 pub fn u64_at(big: bool, from: Cursor) -> Result<(u64, Cursor), Fault>
-    ensures exact { Gives (λ x. (x.0, spot x.1)) result (number_at big w64 from.entry.at from.entry.rest.now) }
+    ensures exact { Gives (λ (n, behind). (n, spot behind)) result (number_at big w64 from.entry.at from.entry.rest.now) }
 {
     if from.rest.len() < 8 {
         return Err(Fault::new(FaultKind::Length, from.at));

@@ -101,7 +101,7 @@ fn number_field<'a>(
     fields: Fields<'a>,
     from: Cursor<'a>,
 ) -> Result<(Fields<'a>, Cursor<'a>), Fault>
-    ensures exact { Gives (λ x. (header x.0, spot x.1)) result (number_field big start code (header fields.entry) from.entry.at from.entry.rest.now) }
+    ensures exact { Gives (λ (fields, behind). (header fields, spot behind)) result (number_field big start code (header fields.entry) from.entry.at from.entry.rest.now) }
 {
     let here = pad(4, from)?;
     let (number, after) = u32_at(big, here)?;
@@ -119,7 +119,7 @@ fn text_field<'a>(
     fields: Fields<'a>,
     from: Cursor<'a>,
 ) -> Result<(Fields<'a>, Cursor<'a>), Fault>
-    ensures exact { Gives (λ x. (header x.0, spot x.1)) result (text_field big code (header fields.entry) from.entry.at from.entry.rest.now) }
+    ensures exact { Gives (λ (fields, behind). (header fields, spot behind)) result (text_field big code (header fields.entry) from.entry.at from.entry.rest.now) }
 {
     let class = Class::of(type_code(code));
     let here = pad(class.align(), from)?;
@@ -136,7 +136,7 @@ fn known_field<'a>(
     fields: Fields<'a>,
     from: Cursor<'a>,
 ) -> Result<(Fields<'a>, Cursor<'a>), Fault>
-    ensures exact { Gives (λ x. (header x.0, spot x.1)) result (known_field big start code (header fields.entry) from.entry.at from.entry.rest.now) }
+    ensures exact { Gives (λ (fields, behind). (header fields, spot behind)) result (known_field big start code (header fields.entry) from.entry.at from.entry.rest.now) }
 {
     let (signature, rest) = signature_at(from)?;
     if signature.len() != 1 || signature[0] != type_code(code) {
@@ -166,7 +166,7 @@ fn field_at<'a>(
     fields: Fields<'a>,
     from: Cursor<'a>,
 ) -> Result<(Fields<'a>, Cursor<'a>), Fault>
-    ensures exact { Gives (λ x. (header x.0, spot x.1)) result (field_at big (header fields.entry) from.entry.at from.entry.rest.now) }
+    ensures exact { Gives (λ (fields, behind). (header fields, spot behind)) result (field_at big (header fields.entry) from.entry.at from.entry.rest.now) }
 {
     let here = pad(8, from)?;
     let (code, rest) = byte_at(here)?;

@@ -1,6 +1,6 @@
 // Whole messages.
 ghost use Rattle.std.specs.Prelude.{◌≡◌, ◌+◌, ◌≤◌, ◌<◌, length, take, drop, IfOk, Ok, List, ℕ, ◌++◌};
-ghost use Rattle.dbus_values.specs.Reading.{Gives};
+ghost use Rattle.dbus_values.specs.Reading.{Gives, spot_at};
 ghost use Rattle.dbus_values.specs.Parts.{spot};
 ghost use Rattle.dbus_values.specs.Basics.{gap};
 ghost use Rattle.dbus_values.specs.Header.{header};
@@ -64,8 +64,8 @@ fn padded_body<'a>(
     signature: &'a [u8],
     from: Cursor<'a>,
 ) -> Result<(usize, Cursor<'a>), Fault>
-    ensures exact { Gives (λ x. (x.0, spot x.1)) result (padded_body big signature.now from.entry.at from.entry.rest.now) }
-    ensures walked { IfOk result (λ x. body_at big signature.now x.1.at x.1.rest.now ≡ Ok x.0) }
+    ensures exact { Gives (λ (parts, begin). (parts, spot begin)) result (padded_body big signature.now from.entry.at from.entry.rest.now) }
+    ensures walked { IfOk result (λ (parts, begin). body_at big signature.now begin.at begin.rest.now ≡ Ok parts) }
 {
     let begin = pad(8, from)?;
     let parts = body_at(big, walk, signature, begin)?;
@@ -73,27 +73,32 @@ fn padded_body<'a>(
 }
 
 /// The bytes of the header fields, and those of the padding and the body behind them.
-fn halves(first: Start, bytes: &[u8]) -> (Cursor, Cursor)
+#[derive(Clone, Copy)]
+struct Halves<'a> {
+    fields: Cursor<'a>,
+    body: Cursor<'a>,
+}
+
+/// The two halves behind the first 16 bytes.
+fn split(first: Start, bytes: &[u8]) -> Halves
     requires short { total (start first) ≤ 16777216 }
     requires there { total (start first) ≤ length bytes.now }
-    ensures inside_at { result.0.at ≡ 16 }
-    ensures inside { result.0.rest.now ≡ take first.fields (drop 16 bytes.now) }
-    ensures outside_at { result.1.at ≡ 16 + first.fields }
-    ensures outside { result.1.rest.now ≡ take (gap 8 first.fields + first.body) (drop first.fields (drop 16 bytes.now)) }
+    ensures fields { spot result.fields ≡ spot_at 16 (take first.fields (drop 16 bytes.now)) }
+    ensures body { spot result.body ≡ spot_at (16 + first.fields) (take (gap 8 first.fields + first.body) (drop first.fields (drop 16 bytes.now))) }
 {
     let length = first.fields as usize;
     let padding = gap(8, length);
     let (inside, behind) = bytes[16..].split_at(length);
-    (
-        Cursor {
+    Halves {
+        fields: Cursor {
             at: 16,
             rest: inside,
         },
-        Cursor {
+        body: Cursor {
             at: 16 + length,
             rest: &behind[..padding + first.body as usize],
         },
-    )
+    }
 }
 
 /// The signature of the body.
@@ -111,16 +116,16 @@ fn signature_of<'a>(fields: &Fields<'a>) -> &'a [u8]
 fn message_of<'a>(first: Start, bytes: &'a [u8]) -> Result<(Fields<'a>, (usize, Cursor<'a>)), Fault>
     requires short { total (start first) ≤ 16777216 }
     requires there { total (start first) ≤ length bytes.now }
-    ensures exact { Gives (λ x. (header x.0, (x.1.0, spot x.1.1))) result (message_of (start first) bytes.now) }
-    ensures walked { IfOk result (λ x. body_at first.big (signature_of (header x.0)) x.1.1.at x.1.1.rest.now ≡ Ok x.1.0) }
+    ensures exact { Gives (λ (fields, (parts, begin)). (header fields, (parts, spot begin))) result (message_of (start first) bytes.now) }
+    ensures walked { IfOk result (λ (fields, (parts, begin)). body_at first.big (signature_of (header fields)) begin.at begin.rest.now ≡ Ok parts) }
 {
-    let (inside, outside) = halves(first, bytes);
-    let mut walk = Walk::new(&bytes[..0], inside);
-    let fields = fields_at(first.big, &mut walk, inside)?;
+    let halves = split(first, bytes);
+    let mut walk = Walk::new(&bytes[..0], halves.fields);
+    let fields = fields_at(first.big, &mut walk, halves.fields)?;
     if fields.lacks(first.kind) {
         return Err(Fault::new(FaultKind::Fields, 12));
     }
-    let body = padded_body(first.big, &mut walk, signature_of(&fields), outside)?;
+    let body = padded_body(first.big, &mut walk, signature_of(&fields), halves.body)?;
     Ok((fields, body))
 }
 

@@ -43,7 +43,7 @@ pub fn is_text(bytes: &[u8]) -> bool
 #[inline(always)]
 #[tactic(auto, unfolding(crate::specs::Basics::ended))]
 fn ended(at: usize, n: usize, from: Cursor) -> Result<(&[u8], Cursor), Fault>
-    ensures exact { Gives (λ x. (x.0.now, spot x.1)) result (ended at n from.entry.at from.entry.rest.now) }
+    ensures exact { Gives (λ (bytes, behind). (bytes.now, spot behind)) result (ended at n from.entry.at from.entry.rest.now) }
 {
     if n < from.rest.len() {
         if from.rest[n] == 0 {
@@ -58,7 +58,7 @@ fn ended(at: usize, n: usize, from: Cursor) -> Result<(&[u8], Cursor), Fault>
 #[inline(always)]
 #[tactic(auto, unfolding(crate::specs::Basics::text_at))]
 fn text_at(big: bool, from: Cursor) -> Result<(&[u8], Cursor), Fault>
-    ensures exact { Gives (λ x. (x.0.now, spot x.1)) result (text_at big from.entry.at from.entry.rest.now) }
+    ensures exact { Gives (λ (bytes, behind). (bytes.now, spot behind)) result (text_at big from.entry.at from.entry.rest.now) }
 {
     let (n, rest) = u32_at(big, from)?;
     let (text, rest) = ended(from.at, n as usize, rest)?;
@@ -73,7 +73,7 @@ fn text_at(big: bool, from: Cursor) -> Result<(&[u8], Cursor), Fault>
 #[inline(always)]
 #[tactic(auto, unfolding(crate::specs::Basics::signature_at))]
 pub fn signature_at(from: Cursor) -> Result<(&[u8], Cursor), Fault>
-    ensures exact { Gives (λ x. (x.0.now, spot x.1)) result (signature_at from.entry.at from.entry.rest.now) }
+    ensures exact { Gives (λ (bytes, behind). (bytes.now, spot behind)) result (signature_at from.entry.at from.entry.rest.now) }
 {
     let (n, rest) = byte_at(from)?;
     let (text, rest) = ended(from.at, n as usize, rest)?;
@@ -128,7 +128,7 @@ pub fn is_path(bytes: &[u8]) -> bool
 #[inline(always)]
 #[tactic(auto, unfolding(crate::specs::Basics::string_at))]
 pub fn string_at(class: Class, big: bool, from: Cursor) -> Result<(&[u8], Cursor), Fault>
-    ensures exact { Gives (λ x. (x.0.now, spot x.1)) result (string_at class big from.entry.at from.entry.rest.now) }
+    ensures exact { Gives (λ (bytes, behind). (bytes.now, spot behind)) result (string_at class big from.entry.at from.entry.rest.now) }
 {
     match class {
         Class::Text => text_at(big, from),
@@ -165,7 +165,7 @@ fn number_part<'a>(kind: u8, value: u64) -> Part<'a>
 #[inline(always)]
 #[tactic(auto, unfolding(crate::specs::Basics::leaf_at))]
 pub fn leaf_at(class: Class, big: bool, kind: u8, from: Cursor) -> Result<(Part, Cursor), Fault>
-    ensures exact { Gives (λ x. (piece x.0, spot x.1)) result (leaf_at class big kind from.entry.at from.entry.rest.now) }
+    ensures exact { Gives (λ (part, behind). (piece part, spot behind)) result (leaf_at class big kind from.entry.at from.entry.rest.now) }
 {
     match class {
         Class::Byte => {

@@ -643,7 +643,7 @@ pub fn values_at<'a>(
     from: Cursor<'a>,
 ) -> Result<(usize, Cursor<'a>), Fault>
     requires { limit ≤ 64 }
-    ensures exact { Gives (λ x. walked x.0 (spot x.1)) result (values_at limit big signature.now from.entry.at from.entry.rest.now) }
+    ensures exact { Gives (λ (parts, behind). walked parts (spot behind)) result (values_at limit big signature.now from.entry.at from.entry.rest.now) }
 {
     walk.frames.clear();
     walk.types = signature;
