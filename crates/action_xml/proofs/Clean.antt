@@ -6,8 +6,8 @@ use Rattle.std.proofs.lemmas.Bool.{ne_eqb}
 use Rattle.std.proofs.lemmas.Bool.Decides.{nat_tests}
 use Rattle.std.proofs.lemmas.List.{take_all}
 use Rattle.std.proofs.lemmas.Str.{utf8_valid_len-IsUtf8}
-use Rattle.pk_types.specs.Text.{text_bad, place_or_end}
-use Rattle.keyfile_text.specs.Bytes.{NoZero, IsClean}
+use Rattle.pk_types.specs.Text.{NoZero, text_bad, place_or_end}
+use Rattle.keyfile_text.specs.Bytes.{IsClean}
 
 all_pass : (bytes : List ℕ) → NoZero bytes → prefix_len (λ b. not (b == 0)) bytes ≡ length bytes
 all_pass [] none = refl
