@@ -1,7 +1,7 @@
 // Laws about the element `action`.
 ghost use Rattle.std.specs.Prelude.{◌≡◌, ◌++◌, ℕ, List, Ok};
 ghost use Rattle.action_drafts.specs.declared.draft.ActionDraft.{ActionDraft};
-ghost use Rattle.action_drafts.specs.Actions.{InAction, action};
+ghost use Rattle.action_drafts.specs.Actions.{action};
 ghost use Rattle.action_file_laws.specs.RowForm.{Parent};
 ghost use Rattle.action_file_laws.specs.ActionForm.{Part, SaysAction, action_bytes};
 
@@ -13,6 +13,6 @@ pub fn actions_are_read_again()
 
 /// An action that is read has the form of one behind its name.
 pub fn actions_read_have_a_form()
-    ensures found { (place bytes : List ℕ) (x : InAction) → action place bytes ≡ Ok x
-        → (p : Parent Part) × SaysAction p x.0 × (bytes ≡ action_bytes p ++ x.1) }
+    ensures found { (place bytes rest : List ℕ) (a : ActionDraft) → action place bytes ≡ Ok (a, rest)
+        → (p : Parent Part) × SaysAction p a × (bytes ≡ action_bytes p ++ rest) }
 {}

@@ -14,6 +14,6 @@ pub fn defaults_are_read_again()
 /// Defaults that are read have the form of them behind their name, and are the first of their
 /// action.
 pub fn defaults_read_have_a_form()
-    ensures found { (place : List ℕ) (old : Option Defaults) (bytes : List ℕ) (x : Defaults × List ℕ) → defaults_element place old bytes ≡ Ok x
-        → (old ≡ None) × ((p : Parent Default) × SaysDefaults p x.0 × (bytes ≡ defaults_bytes p ++ x.1)) }
+    ensures found { (place : List ℕ) (old : Option Defaults) (bytes rest : List ℕ) (d : Defaults) → defaults_element place old bytes ≡ Ok (d, rest)
+        → (old ≡ None) × ((p : Parent Default) × SaysDefaults p d × (bytes ≡ defaults_bytes p ++ rest)) }
 {}

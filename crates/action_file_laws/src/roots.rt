@@ -1,7 +1,7 @@
 // Laws about the root element.
 ghost use Rattle.std.specs.Prelude.{◌≡◌, ◌++◌, ◌∷◌, ℕ, List, Ok};
 ghost use Rattle.action_drafts.specs.declared.draft.FileDraft.{FileDraft};
-ghost use Rattle.action_drafts.specs.Documents.{InFile, root};
+ghost use Rattle.action_drafts.specs.Documents.{root};
 ghost use Rattle.action_file_laws.specs.RowForm.{Parent};
 ghost use Rattle.action_file_laws.specs.RootForm.{FilePart, SaysRoot, root_bytes};
 
@@ -13,6 +13,6 @@ pub fn roots_are_read_again()
 
 /// A root element that is read from its `<` has the form of one.
 pub fn roots_read_have_a_form()
-    ensures found { (bytes : List ℕ) (x : InFile) → root (60 ∷ bytes) ≡ Ok x
-        → (p : Parent FilePart) × SaysRoot p x.0 × (60 ∷ bytes ≡ root_bytes p ++ x.1) }
+    ensures found { (bytes rest : List ℕ) (f : FileDraft) → root (60 ∷ bytes) ≡ Ok (f, rest)
+        → (p : Parent FilePart) × SaysRoot p f × (60 ∷ bytes ≡ root_bytes p ++ rest) }
 {}

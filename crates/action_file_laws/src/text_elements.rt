@@ -1,6 +1,5 @@
 // Laws about elements that hold a text.
 ghost use Rattle.std.specs.Prelude.{◌≡◌, ℕ, List, ◌++◌, Ok, false, is_none};
-ghost use Rattle.xml_pieces.specs.References.{Reading};
 ghost use Rattle.xml_pieces.specs.Texts.{Tag, tag, text};
 ghost use Rattle.action_file_laws.specs.TextForm.{IsName};
 ghost use Rattle.action_file_laws.specs.TextElementForm.{TextElement, IsTextElement, behind_name_bytes, inside_bytes, attributes_of, text_of};
@@ -16,6 +15,6 @@ pub fn text_elements_are_read_again()
 
 /// An element whose start tag and text are read has the form of one, behind its name.
 pub fn text_elements_read_have_a_form()
-    ensures found { (name place bytes : List ℕ) (t : Tag) (x : Reading) → tag false bytes ≡ Ok t → text name place t ≡ Ok x
-        → (e : TextElement) × IsTextElement e × (bytes ≡ behind_name_bytes name e ++ x.1) × (x.0 ≡ text_of e) × (t.attributes ≡ attributes_of e) }
+    ensures found { (name place bytes held rest : List ℕ) (t : Tag) → tag false bytes ≡ Ok t → text name place t ≡ Ok (held, rest)
+        → (e : TextElement) × IsTextElement e × (bytes ≡ behind_name_bytes name e ++ rest) × (held ≡ text_of e) × (t.attributes ≡ attributes_of e) }
 {}

@@ -1,7 +1,6 @@
 // Laws about the form of action files. Each is the contract of a function that does nothing.
 ghost use Rattle.std.specs.Prelude.{◌≡◌, ◌+◌, ℕ, List, ◌∷◌, codes, Ok, ◌++◌, length};
 ghost use Rattle.xml_pieces.specs.Reading.{steps, On};
-ghost use Rattle.xml_pieces.specs.References.{Reading};
 ghost use Rattle.pk_types.specs.Text.{IsText};
 ghost use Rattle.xml_pieces.specs.Markup.{declaration};
 ghost use Rattle.xml_pieces.specs.Texts.{text_step, whole_text};
@@ -20,8 +19,8 @@ pub fn comments_read_have_a_form()
 
 /// A step in a text takes one piece of it.
 pub fn steps_take_pieces()
-    ensures found { (wanted place so bytes : List ℕ) (t : Reading) → text_step wanted place (so, bytes) ≡ Ok (On t)
-        → (bit : Bit) × IsBit bit t.1 × (bytes ≡ bit_bytes bit ++ t.1) × (t.0 ≡ so ++ bit_text bit) }
+    ensures found { (wanted place so bytes more rest : List ℕ) → text_step wanted place (so, bytes) ≡ Ok (On (more, rest))
+        → (bit : Bit) × IsBit bit rest × (bytes ≡ bit_bytes bit ++ rest) × (more ≡ so ++ bit_text bit) }
 {}
 
 /// A whole text is read again, whatever follows its end tag.
@@ -33,7 +32,7 @@ pub fn whole_texts_are_read_again()
 
 /// A whole text that is read has the form of one.
 pub fn whole_texts_read_have_a_form()
-    ensures found { (wanted place bytes : List ℕ) (x : Reading) → whole_text wanted place bytes ≡ Ok x
-        → (bits : List Bit) × (white : List ℕ) × IsWhite white × AreBits bits (codes "</" ++ (wanted ++ (white ++ 62 ∷ x.1)))
-        × (bytes ≡ bits_bytes bits ++ (codes "</" ++ (wanted ++ (white ++ 62 ∷ x.1)))) × (x.0 ≡ bits_text bits) × IsText x.0 }
+    ensures found { (wanted place bytes text rest : List ℕ) → whole_text wanted place bytes ≡ Ok (text, rest)
+        → (bits : List Bit) × (white : List ℕ) × IsWhite white × AreBits bits (codes "</" ++ (wanted ++ (white ++ 62 ∷ rest)))
+        × (bytes ≡ bits_bytes bits ++ (codes "</" ++ (wanted ++ (white ++ 62 ∷ rest)))) × (text ≡ bits_text bits) × IsText text }
 {}

@@ -1,7 +1,6 @@
 // Laws about the values of attributes.
 ghost use Rattle.std.specs.Prelude.{◌≡◌, ◌⊎◌, ℕ, List, [], ◌∷◌, ◌++◌, Ok};
 ghost use Rattle.pk_types.specs.Text.{IsText};
-ghost use Rattle.xml_pieces.specs.References.{Reading};
 ghost use Rattle.xml_pieces.specs.Texts.{value};
 ghost use Rattle.action_file_laws.specs.TextForm.{Bit, AreValueBits, bits_bytes, bits_text};
 
@@ -14,7 +13,7 @@ pub fn values_are_read_again()
 
 /// A value that is read stands between its quotes and has the form of one.
 pub fn values_read_have_a_form()
-    ensures found { (place bytes : List ℕ) (x : Reading) → value place bytes ≡ Ok x
+    ensures found { (place bytes text rest : List ℕ) → value place bytes ≡ Ok (text, rest)
         → (quote : ℕ) × (bits : List Bit) × ((quote ≡ 34) ⊎ (quote ≡ 39)) × AreValueBits quote bits (quote ∷ [])
-        × (bytes ≡ quote ∷ (bits_bytes bits ++ quote ∷ x.1)) × (x.0 ≡ bits_text bits) × IsText x.0 }
+        × (bytes ≡ quote ∷ (bits_bytes bits ++ quote ∷ rest)) × (text ≡ bits_text bits) × IsText text }
 {}
