@@ -1,12 +1,12 @@
 -- With fewer bytes than are awaited there is less than a message.
-use Rattle.std.proofs.Common.{◌≡◌, ℕ, ◌+◌, ◌<◌, List, [], ◌∷◌, ◌++◌, length, Bool, true, false, cond, ltb, Result, Ok, Err, refl, sym, ap, subst, ◌∙◌, arith, append-nil}
-use Rattle.std.proofs.lemmas.Bool.{ltb-false, ltb-true, lt-ltb}
+use Rattle.std.proofs.Common.{◌≡◌, ℕ, ◌+◌, ◌<◌, List, [], ◌∷◌, ◌++◌, length, Bool, true, false, cond, ltb, Result, Ok, Err, refl, ap, ◌∙◌, arith, append-nil}
+use Rattle.std.proofs.lemmas.Bool.{ltb-true, lt-ltb}
 use Rattle.std.proofs.lemmas.List.{length-append}
 use Rattle.dbus_values.specs.declared.fault.Stop.{Stop}
 use Rattle.dbus_values.specs.declared.fault.Stop.TheVariants as stop
 use Rattle.dbus_values.specs.Awaiting.{awaited, awaited_after}
 use Rattle.dbus_values.specs.Messages.{Start, total, start_of, message_of}
-use Rattle.dbus_values.specs.Next.{Answer, Whole, Partial, Bad, message_on, start_on, next_of}
+use Rattle.dbus_values.specs.Next.{Partial, Bad, message_on, start_on, next_of}
 use Rattle.dbus_values.proofs.Prefixes.{Stays, start_stays}
 
 nothing_more : (bytes more : List ℕ) → length (bytes ++ more) < length bytes + 1 → bytes ++ more ≡ bytes

@@ -4,6 +4,7 @@ pub mod Stack
 pub mod Slots
 pub mod Steps
 pub mod Short
+pub mod Repeated
 pub mod Numbers
 pub mod Leaves
 pub mod Walking

@@ -11,8 +11,6 @@ use Rattle.dbus_values.specs.declared.fault.FaultKind.TheVariants as fault
 use Rattle.dbus_values.specs.Reading.{Spot, bad, spot_at}
 use Rattle.dbus_values.specs.Basics.{zeros}
 use Rattle.dbus_values.specs.Reading.{◌>>=◌}
-use Rattle.dbus_values.specs.Opened.{Open}
-use Rattle.dbus_values.specs.Walk.{state, walk, walked, is_done, next_in}
 use Rattle.dbus_values.specs.Header.{Header, field_at, fields_at}
 
 pub down : (n i : ℕ) → i < n → n - i ≡ suc (n - (i + 1))
@@ -130,20 +128,3 @@ unfolding fields_at
 fields_left n i big h at bytes le long = let k : n - i ≡ 0 = omega arith in rw (k, long) refl
 
 pub ruleset fields_rules = (fields_step, fields_end, fields_left)
-
--- one more part
-pub walk_step : (n i limit : ℕ) (big : Bool) (fs : List Open) (types : List ℕ) (at : ℕ) (rest : List ℕ) → i < n → is_done (state fs types at rest) ≡ false
-    → walk (n - i) i limit big (state fs types at rest) ≡ (next_in limit big fs types at rest >>= λ x. walk (n - (i + 1)) (i + 1) limit big x.1)
-unfolding walk
-walk_step n i limit big fs types at rest lt more = let k : n - i ≡ suc (n - (i + 1)) = omega arith in rw (k, more) refl
-
-pub walk_end : (n i limit : ℕ) (big : Bool) (fs : List Open) (types : List ℕ) (at : ℕ) (rest : List ℕ) → i < n → is_done (state fs types at rest) ≡ true
-    → walk (n - i) i limit big (state fs types at rest) ≡ Ok (walked i (spot_at at rest))
-unfolding walk
-walk_end n i limit big fs types at rest lt done = let k : n - i ≡ suc (n - (i + 1)) = omega arith in rw (k, done) refl
-
-pub walk_left : (n i limit : ℕ) (big : Bool) (fs : List Open) (types : List ℕ) (at : ℕ) (rest : List ℕ) → n ≤ i → walk (n - i) i limit big (state fs types at rest) ≡ bad fault.Length at
-unfolding walk
-walk_left n i limit big fs types at rest le = let k : n - i ≡ 0 = omega arith in rw k refl
-
-pub ruleset walk_rules = (walk_step, walk_end, walk_left)

@@ -1,5 +1,5 @@
 -- The steps that are found in short: over bytes and structures, and at the end of arrays and structures.
-use Rattle.std.proofs.Common.{◌≡◌, ℕ, suc, ◌+◌, ◌<◌, ◌≤◌, List, [], ◌∷◌, length, get_or, drop, Bool, true, false, eqb, ltb, Ok, Some, refl, arith}
+use Rattle.std.proofs.Common.{◌≡◌, ℕ, ◌+◌, ◌<◌, ◌≤◌, List, [], ◌∷◌, length, get_or, drop, Bool, true, false, eqb, ltb, Ok, Some, refl, arith}
 use Rattle.std.proofs.lemmas.Bool.Decides.{nat_tests}
 use Rattle.dbus_values.specs.Parts as part
 use Rattle.dbus_values.specs.Opened.{Open, innermost, outer, is_variant}

@@ -6,6 +6,7 @@ pub mod Basics
 pub mod Opened
 pub mod Walk
 pub mod Places
+pub mod Runs
 pub mod Header
 pub mod Messages
 pub mod Starts

@@ -1,5 +1,5 @@
 -- The containers that are open at a place.
-use Rattle.std.specs.Prelude.{ℕ, ◌+◌, ◌<◌, ◌≤◌, Bool, true, false, List, [], ◌∷◌, length, slice_index_or, Option, Some, None}
+use Rattle.std.specs.Prelude.{ℕ, zero, suc, ◌+◌, ◌<◌, ◌≤◌, Bool, true, false, List, [], ◌∷◌, length, map, reverse, take, slice_index_or, Option, Some, None}
 use Rattle.dbus_values.specs.declared.frames.Frame.{Frame}
 use Rattle.dbus_values.specs.declared.frames.Frame.TheVariants as frame
 
@@ -45,3 +45,16 @@ AllWithin frames = (i : ℕ) (d : Frame) → i < length frames → IsWithin (sli
 abbrev pub is_variant : Option Open → Bool
 is_variant (Some (Inner types)) = true
 is_variant _ = false
+
+abbrev pub is_structure : Option Open → Bool
+is_structure (Some Members) = true
+is_structure _ = false
+
+-- so many more structures inside each other
+unfoldable pub with_members : ℕ → List Open → List Open
+with_members zero fs = fs
+with_members (suc n) fs = with_members n (Members ∷ fs)
+
+-- the containers in so many places, the innermost first
+abbrev pub seen : ℕ → List Frame → List Open
+seen n frames = map opened (reverse (take n frames))

@@ -30,3 +30,11 @@ pub fn behind_first(bytes: &[u8]) -> &[u8]
 {
     &bytes[1..]
 }
+
+/// The bytes behind so many.
+pub fn bytes_behind(n: usize, bytes: &[u8]) -> &[u8]
+    requires { n ≤ length bytes.now }
+    ensures rest { result.now ≡ drop n bytes.now }
+{
+    &bytes[n..]
+}

@@ -1,7 +1,7 @@
 // The containers that are open, the innermost first.
-ghost use Rattle.std.specs.Prelude.{◌≡◌, ◌<◌, ◌∷◌, length, [], Some, IfSome};
+ghost use Rattle.std.specs.Prelude.{◌≡◌, ◌<◌, ◌≤◌, ◌+◌, ◌-◌, ◌∷◌, length, drop, [], Some, IfSome, false};
 ghost use Rattle.std.specs.Option.{option_map};
-ghost use Rattle.dbus_values.specs.Opened.{opened, innermost, outer, is_variant, IsWithin};
+ghost use Rattle.dbus_values.specs.Opened.{opened, innermost, outer, is_variant, is_structure, with_members, seen, IsWithin, AllWithin};
 ghost use Rattle.dbus_values.specs.Signatures.{after_item};
 
 use crate::known_items::KnownItems;
@@ -41,6 +41,14 @@ impl<'a> Frame<'a> {
         matches!(self, Frame::Inner { .. })
     }
 
+    /// Whether it is a structure.
+    #[inline(always)]
+    fn is_structure(&self) -> bool
+        ensures { result ≡ is_structure (Some (opened self.now)) }
+    {
+        matches!(self, Frame::Members)
+    }
+
     /// How many letters of the signatures at hand stand behind this container.
     fn letters(&self) -> usize {
         match self {
@@ -49,6 +57,37 @@ impl<'a> Frame<'a> {
             Frame::Members | Frame::Key | Frame::Value | Frame::Closing => 0,
         }
     }
+}
+
+/// Puts structures into so many places. Most often they are there already, and a look takes less
+/// than a write.
+#[inline(always)]
+fn put_members<'a>(frames: &mut [Frame<'a>], from: usize, n: usize)
+    requires room { from + n ≤ length frames.old }
+    ensures put { seen (from + n) frames.new ≡ with_members n (seen from frames.old) }
+    ensures within { AllWithin frames.old → AllWithin frames.new }
+{
+    for i in 0..n {
+        if !frames[from + i].is_structure() {
+            frames[from + i] = Frame::Members;
+        }
+    }
+}
+
+/// How many of the innermost containers are structures, up to so many.
+#[inline(always)]
+fn members_on<'a>(frames: &[Frame<'a>], len: usize, most: usize) -> usize
+    requires all { len ≤ length frames.now }
+    ensures few { result ≤ most }
+    ensures within { result ≤ len }
+    ensures exact { seen len frames.now ≡ with_members result (seen (len - result) frames.now) }
+{
+    for i in 0..most.min(len) {
+        if !frames[len - 1 - i].is_structure() {
+            return i;
+        }
+    }
+    most.min(len)
 }
 
 /// At most 64 open containers, seen as a list, the innermost first.
@@ -156,6 +195,70 @@ impl<'a> Frames<'a> {
         if self.len > 0 {
             self.len -= 1;
             self.letters = self.letters.wrapping_sub(self.frames[self.len].letters());
+        }
+    }
+
+    /// Opens so many structures inside each other.
+    #[inline(always)]
+    pub fn push_members(&mut self, n: usize)
+        requires room { length self.old + n ≤ 64 }
+        ensures opened { self.new ≡ with_members n self.old }
+    {
+        let from = self.len;
+        put_members(&mut self.frames, from, n);
+        self.len = from + n;
+    }
+
+    /// How many of the innermost are structures, up to so many. Where a variant stands around
+    /// them, it is none.
+    #[inline(always)]
+    fn members(&self, most: usize) -> usize
+        ensures few { result ≤ most }
+        ensures within { result ≤ length self.now }
+        ensures outer { self.now ≡ with_members result (drop result self.now) }
+        ensures plain { 1 ≤ result → is_variant (innermost (drop result self.now)) ≡ false }
+    {
+        let n = members_on(&self.frames, self.len, most);
+        if n == self.len {
+            return n;
+        }
+        if self.frames[self.len - 1 - n].is_variant() {
+            return 0;
+        }
+        n
+    }
+
+    /// Closes so many.
+    #[inline(always)]
+    fn pop_all(&mut self, n: usize)
+        requires open { n ≤ length self.old }
+        ensures outer { self.new ≡ drop n self.old }
+    {
+        self.len -= n;
+    }
+
+    /// Closes the structures that are innermost, up to so many, and tells how many. Where a variant
+    /// stands around them, none is closed.
+    #[inline(always)]
+    pub fn pop_members(&mut self, most: usize) -> usize
+        ensures few { result ≤ most }
+        ensures outer { self.old ≡ with_members result self.new }
+        ensures plain { 1 ≤ result → is_variant (innermost self.new) ≡ false }
+    {
+        let n = self.members(most);
+        self.pop_all(n);
+        n
+    }
+
+    /// Whether the innermost is a structure.
+    #[inline(always)]
+    pub fn is_in_structure(&self) -> bool
+        ensures { result ≡ is_structure (innermost self.now) }
+    {
+        if self.len > 0 {
+            self.frames[self.len - 1].is_structure()
+        } else {
+            false
         }
     }
 }

@@ -13,8 +13,9 @@ use crate::codes::{
 use crate::cursor::Cursor;
 use crate::fault::{Fault, FaultKind};
 use crate::fields::Fields;
+use crate::runs::values_at;
 use crate::strings::{signature_at, string_at};
-use crate::walk::{Walk, values_at};
+use crate::walk::Walk;
 
 impl<'a> Fields<'a> {
     /// Whether there is the field of this code.

@@ -21,6 +21,7 @@ mod message;
 mod part;
 mod parts;
 mod posting;
+mod runs;
 mod signature;
 mod size;
 mod start;

@@ -15,8 +15,9 @@ use crate::cursor::Cursor;
 use crate::fault::{Fault, FaultKind, Stop};
 use crate::fields::Fields;
 use crate::header::fields_at;
+use crate::runs::values_at;
 use crate::start::{Start, start_of};
-use crate::walk::{Walk, values_at};
+use crate::walk::Walk;
 use crate::wire_message::WireMessage;
 
 /// What a stream of bytes begins with.

@@ -1,11 +1,11 @@
 // A walk over values, part by part.
 ghost use Rattle.std.specs.Prelude.{◌≡◌, ◌<◌, ◌≤◌, ◌+◌, ◌-◌, ◌∷◌, [], false, Some, Ok, Err, MatchResult, length, take, drop, slice_index};
 ghost use Rattle.dbus_values.specs.Reading.{Gives};
-ghost use Rattle.dbus_values.specs.Parts.{piece, spot};
+ghost use Rattle.dbus_values.specs.Parts.{piece};
 ghost use Rattle.dbus_values.specs.Parts as part;
 ghost use Rattle.dbus_values.specs.Opened as opened_part;
 ghost use Rattle.dbus_values.specs.Signatures.{after_item, after_type};
-ghost use Rattle.dbus_values.specs.Walk.{state, rest_of, resume, resumed, enter_array, enter_struct, enter_variant, enter_leaf, enter_by, enter_any, enter, enter_entry, enter_item, in_items, in_members, in_key, in_closing, next_in, walked, values_at};
+ghost use Rattle.dbus_values.specs.Walk.{state, rest_of, resume, resumed, enter_array, enter_struct, enter_variant, enter_leaf, enter_by, enter_any, enter, enter_entry, enter_item, in_items, in_members, in_key, in_closing, next_in};
 ghost use Rattle.dbus_values.specs.Opened.{innermost, outer, is_variant};
 ghost use Rattle.dbus_values.specs.Places.{place, Leads, ShortLeads};
 
@@ -22,9 +22,9 @@ use crate::strings::{leaf_at, signature_at};
 /// Each step moves it on where it stands, since moving it would cost more than most steps.
 #[derive(Drop)]
 pub struct Walk<'a> {
-    frames: Frames<'a>,
-    types: &'a [u8],
-    here: Cursor<'a>,
+    pub frames: Frames<'a>,
+    pub types: &'a [u8],
+    pub here: Cursor<'a>,
 }
 
 impl<'a> Walk<'a> {
@@ -453,7 +453,7 @@ fn in_items<'a>(
 /// The next part.
 #[inline(never)]
 #[tactic(auto, using(crate::proofs::Steps::next_rules))]
-fn next_in<'a>(limit: usize, big: bool, walk: &mut Walk<'a>) -> Result<Part<'a>, Fault>
+pub fn next_in<'a>(limit: usize, big: bool, walk: &mut Walk<'a>) -> Result<Part<'a>, Fault>
     requires { limit ≤ 64 }
     ensures exact { Leads result walk.new (next_in limit big walk.old.frames walk.old.types.now walk.old.here.at walk.old.here.rest.now) }
 {
@@ -584,7 +584,7 @@ fn short_member<'a>(limit: usize, big: bool, walk: &mut Walk<'a>) -> Option<Part
 
 /// The next part, where a look at the types tells it.
 #[inline(always)]
-fn next_short<'a>(limit: usize, big: bool, walk: &mut Walk<'a>) -> Option<Part<'a>>
+pub fn next_short<'a>(limit: usize, big: bool, walk: &mut Walk<'a>) -> Option<Part<'a>>
     requires { limit ≤ 64 }
     ensures exact { ShortLeads result walk.new walk.old (next_in limit big walk.old.frames walk.old.types.now walk.old.here.at walk.old.here.rest.now) }
 {
@@ -627,32 +627,4 @@ pub fn next_part<'a>(limit: usize, big: bool, walk: &mut Walk<'a>) -> Result<Par
         Some(part) => Ok(part),
         None => Ok(next_in(limit, big, walk)?),
     }
-}
-
-/// More parts than any message has.
-const MOST_PARTS: usize = 4294967296;
-
-/// How many parts the values of a signature have, inside which at most `limit` containers stand,
-/// and what follows them. Nothing of the walk before counts.
-#[tactic(auto, using(crate::proofs::Loops::walk_rules))]
-pub fn values_at<'a>(
-    limit: usize,
-    big: bool,
-    walk: &mut Walk<'a>,
-    signature: &'a [u8],
-    from: Cursor<'a>,
-) -> Result<(usize, Cursor<'a>), Fault>
-    requires { limit ≤ 64 }
-    ensures exact { Gives (λ (parts, behind). walked parts (spot behind)) result (values_at limit big signature.now from.entry.at from.entry.rest.now) }
-{
-    walk.frames.clear();
-    walk.types = signature;
-    walk.here = from;
-    for i in 0..MOST_PARTS {
-        if walk.frames.len() == 0 && walk.types.is_empty() {
-            return Ok((i, walk.here));
-        }
-        let _part = next_part(limit, big, walk)?;
-    }
-    Err(Fault::new(FaultKind::Length, walk.here.at))
 }

@@ -1,4 +1,4 @@
-use Rattle.std.proofs.Common.{Option, Bool, ap, ◌∙◌, arith}
+use Rattle.std.proofs.Common.{Option, ap, ◌∙◌, arith}
 use Rattle.dbus_values.specs.Opened.{Open, is_variant}
 use Rattle.dbus_values.proofs.Stack.{seen_below, seen_one}
 use Rattle.dbus_values.proofs.frames.Frames.is_in_variant.Goals as goal

@@ -1,5 +1,6 @@
 use Rattle.std.proofs.Common.{arith, length, ◌≡◌, ◌-◌}
-use Rattle.dbus_values.proofs.Stack.{seen, seen_less, length-seen}
+use Rattle.dbus_values.proofs.Stack.{seen_less, length-seen}
+use Rattle.dbus_values.specs.Opened.{seen}
 use Rattle.dbus_values.proofs.frames.Frames.pop.Goals as goal
 
 pub returns-then-self-gt0-clause-outer : goal.returns-then-self-gt0-clause-outer

@@ -1,6 +1,7 @@
 use Rattle.std.proofs.Common.{◌<◌, arith, length}
 use Rattle.std.proofs.Math.ListN.{length-set}
-use Rattle.dbus_values.proofs.Stack.{length-seen, seen, seen_set, within_set}
+use Rattle.dbus_values.proofs.Stack.{length-seen, seen_set, within_set}
+use Rattle.dbus_values.specs.Opened.{seen}
 use Rattle.dbus_values.proofs.frames.Frames.push.Goals as goal
 
 pub bounds-self-inside-self-inside : goal.bounds-self-inside-self-inside

@@ -1,0 +1,157 @@
+// Runs of structures that begin, or end, right behind each other.
+ghost use Rattle.std.specs.Prelude.{◌≡◌, ◌<◌, ◌≤◌, ℕ, Bool, Some, IfOk, length, slice_index};
+ghost use Rattle.dbus_values.specs.Reading.{Gives};
+ghost use Rattle.dbus_values.specs.Parts.{piece, spot};
+ghost use Rattle.dbus_values.specs.Parts as part;
+ghost use Rattle.dbus_values.specs.Opened as opened_part;
+ghost use Rattle.dbus_values.specs.Opened.{innermost};
+ghost use Rattle.dbus_values.specs.Places.{place};
+ghost use Rattle.dbus_values.specs.Walk.{walked, values_at};
+ghost use Rattle.dbus_values.specs.Runs.{Repeats, RunLeads};
+
+use crate::basics::gap;
+use crate::cursor::{Cursor, bytes_behind};
+use crate::fault::{Fault, FaultKind};
+use crate::part::Part;
+use crate::walk::{Walk, next_in, next_short};
+
+/// How often a letter stands at the front of a signature, up to so many.
+#[inline(always)]
+fn times(letter: u8, sig: &[u8], most: usize) -> usize
+    ensures few { result ≤ most }
+    ensures within { result ≤ length sig.now }
+    ensures same { (k : ℕ) → k < result → slice_index sig.now k ≡ letter }
+{
+    for i in 0..most.min(sig.len()) {
+        if sig[i] != letter {
+            return i;
+        }
+    }
+    most.min(sig.len())
+}
+
+/// Opens the structures that begin here inside the innermost one, up to so many, and tells how
+/// many.
+#[inline(never)]
+fn open_run<'a>(limit: usize, walk: &mut Walk<'a>, most: usize) -> usize
+    requires limit { limit ≤ 64 }
+    requires open { Some opened_part.Members ≡ innermost walk.old.frames }
+    ensures few { result ≤ most }
+    ensures run { (big : Bool) → Repeats result (part.Enter 40) limit big (place walk.old) (place walk.new) }
+{
+    if gap(8, walk.here.at) != 0 {
+        return 0;
+    }
+    let len = walk.frames.len();
+    if limit <= len {
+        return 0;
+    }
+    let n = times(b'(', walk.types, most.min(limit - len));
+    let types = bytes_behind(n, walk.types);
+    if types.is_empty() {
+        return 0;
+    }
+    if types[0] == b')' {
+        return 0;
+    }
+    walk.frames.push_members(n);
+    walk.types = types;
+    n
+}
+
+/// Ends the structures that end here, up to so many, and tells how many.
+#[inline(never)]
+fn close_run<'a>(walk: &mut Walk<'a>, most: usize) -> usize
+    ensures few { result ≤ most }
+    ensures run { (limit : ℕ) (big : Bool) → Repeats result (part.Leave 40) limit big (place walk.old) (place walk.new) }
+{
+    let ends = times(b')', walk.types, most);
+    let n = walk.frames.pop_members(ends);
+    walk.types = bytes_behind(n, walk.types);
+    n
+}
+
+/// Whether the types that are left begin with a letter.
+#[inline(always)]
+fn begins(letter: u8, sig: &[u8]) -> bool {
+    !sig.is_empty() && sig[0] == letter
+}
+
+/// Goes over the parts that are the same as the part before, where they begin or end structures,
+/// up to so many, and tells how many.
+#[inline(always)]
+fn run_behind<'a>(part: Part<'a>, limit: usize, walk: &mut Walk<'a>, most: usize) -> usize
+    requires { limit ≤ 64 }
+    ensures few { result ≤ most }
+    ensures run { (big : Bool) → Repeats result (piece part.entry) limit big (place walk.old) (place walk.new) }
+{
+    match part {
+        Part::Enter { kind: b'(' } => {
+            if begins(b'(', walk.types) && walk.frames.is_in_structure() {
+                open_run(limit, walk, most)
+            } else {
+                0
+            }
+        }
+        Part::Leave { kind: b'(' } => {
+            if begins(b')', walk.types) {
+                close_run(walk, most)
+            } else {
+                0
+            }
+        }
+        _ => 0,
+    }
+}
+
+/// The next part, and how many of those behind it are the same and were gone over too, up to so
+/// many.
+#[inline(always)]
+pub fn next_run<'a>(
+    limit: usize,
+    big: bool,
+    walk: &mut Walk<'a>,
+    most: usize,
+) -> Result<(Part<'a>, usize), Fault>
+    requires { limit ≤ 64 }
+    ensures exact { RunLeads limit big result walk.new walk.old }
+    ensures few { IfOk result (λ (part, more). more ≤ most) }
+{
+    match next_short(limit, big, walk) {
+        Some(part) => {
+            let more = run_behind(part, limit, walk, most);
+            Ok((part, more))
+        }
+        None => Ok((next_in(limit, big, walk)?, 0)),
+    }
+}
+
+/// More parts than any message has.
+const MOST_PARTS: usize = 4294967296;
+
+/// How many parts the values of a signature have, inside which at most `limit` containers stand,
+/// and what follows them. Nothing of the walk before counts.
+#[tactic(auto, using(crate::proofs::Repeated::walk_rules))]
+pub fn values_at<'a>(
+    limit: usize,
+    big: bool,
+    walk: &mut Walk<'a>,
+    signature: &'a [u8],
+    from: Cursor<'a>,
+) -> Result<(usize, Cursor<'a>), Fault>
+    requires { limit ≤ 64 }
+    ensures exact { Gives (λ (parts, behind). walked parts (spot behind)) result (values_at limit big signature.now from.entry.at from.entry.rest.now) }
+{
+    walk.frames.clear();
+    walk.types = signature;
+    walk.here = from;
+    let mut left = MOST_PARTS;
+    while left > 0 {
+        if walk.frames.len() == 0 && walk.types.is_empty() {
+            return Ok((MOST_PARTS - left, walk.here));
+        }
+        let (_part, more) = next_run(limit, big, walk, left - 1)?;
+        left -= more + 1;
+    }
+    Err(Fault::new(FaultKind::Length, walk.here.at))
+}
