@@ -9,8 +9,8 @@ use Rattle.dbus_values.specs.Parts as part
 use Rattle.dbus_values.specs.Opened.{Open, innermost, is_variant, with_members}
 use Rattle.dbus_values.specs.Opened as open_part
 use Rattle.dbus_values.specs.Basics.{gap}
-use Rattle.dbus_values.specs.Walk.{State, state, enter, next_in, step, is_done, walk, Walked, walked, most_parts}
-use Rattle.dbus_values.specs.Runs.{Repeats}
+use Rattle.dbus_values.specs.Walk.{State, state, enter, next_in, step, is_done, walk, Walked, walked, most_parts, parts, Lasts}
+use Rattle.dbus_values.specs.Runs.{Repeats, again}
 use Rattle.dbus_values.proofs.Loops.{not_zero}
 use Rattle.dbus_values.proofs.Short.{enter_open, members_enter, members_leave}
 
@@ -114,3 +114,47 @@ walk_fault zero so_far limit big fs types at rest e lt more is = absurd (omega a
 walk_fault (suc n) so_far limit big fs types at rest e lt more is = rw (more, is) refl
 
 pub ruleset walk_rules = (walk_run, walk_end, walk_left, walk_fault)
+
+-- a run is so many parts
+parts_repeats : (n m limit : ℕ) (big : Bool) (p : Piece) (s t : State) → Repeats n p limit big s t → parts (n + m) limit big s ≡ again n p (parts m limit big t)
+unfolding Repeats parts
+parts_repeats zero m limit big p s t same = let k : zero + m ≡ m = omega arith in rw (k, same) refl
+parts_repeats (suc n) m limit big p s t run =
+    let k : suc n + m ≡ suc (n + m) = omega arith in
+    rw (k, run.1, parts_repeats n m limit big p run.0 t run.2) refl
+
+lasts_repeats : (n m limit : ℕ) (big : Bool) (p : Piece) (s t : State) → Repeats n p limit big s t → Lasts (n + m) limit big s → Lasts m limit big t
+unfolding Repeats Lasts
+lasts_repeats zero m limit big p s t same lasts = let k : zero + m ≡ m = omega arith in rw (k, same) at lasts
+lasts_repeats (suc n) m limit big p s t run lasts =
+    let k : suc n + m ≡ suc (n + m) = omega arith in
+    lasts_repeats n m limit big p run.0 t run.2 (rw (k, run.1) at lasts)
+
+pub parts_run : (left more limit : ℕ) (big : Bool) (p : Piece) (s t : State) → more + 1 ≤ left → Repeats (suc more) p limit big s t → parts left limit big s ≡ p ∷ again more p (parts (left - (more + 1)) limit big t)
+parts_run left more limit big p s t small run =
+    let k : suc more + (left - (more + 1)) ≡ left = omega (arith, small) in
+    let e = parts_repeats (suc more) (left - (more + 1)) limit big p s t run in
+    rw k at e
+
+pub lasts_run : (left more limit : ℕ) (big : Bool) (p : Piece) (s t : State) → more + 1 ≤ left → Repeats (suc more) p limit big s t → Lasts left limit big s → Lasts (left - (more + 1)) limit big t
+lasts_run left more limit big p s t small run lasts =
+    let k : left ≡ suc more + (left - (more + 1)) = omega (arith, small) in
+    lasts_repeats (suc more) (left - (more + 1)) limit big p s t run (subst (λ (n : ℕ). Lasts n limit big s) k lasts)
+
+-- what comes several times, and what comes no more
+pub again_first : (n : ℕ) (p : Piece) (ps : List Piece) → 0 < n → again n p ps ≡ p ∷ again (n - 1) p ps
+again_first zero p ps pos = absurd (omega arith)
+again_first (suc n) p ps pos = let k : suc n - 1 ≡ n = omega arith in rw k refl
+
+pub again_none : (n : ℕ) (p : Piece) (ps : List Piece) → n ≤ 0 → again n p ps ≡ ps
+again_none zero p ps none = refl
+again_none (suc n) p ps none = absurd (omega arith)
+
+-- a run of one part
+pub parts_one : (left more limit : ℕ) (big : Bool) (p : Piece) (s t : State) → more ≡ 0 → 1 ≤ left → Repeats (suc more) p limit big s t → parts left limit big s ≡ p ∷ parts (left - 1) limit big t
+parts_one left zero limit big p s t none some run = parts_run left zero limit big p s t (omega (arith, some)) run
+parts_one left (suc more) limit big p s t none some run = absurd (omega (arith, none))
+
+pub lasts_one : (left more limit : ℕ) (big : Bool) (p : Piece) (s t : State) → more ≡ 0 → 1 ≤ left → Repeats (suc more) p limit big s t → Lasts left limit big s → Lasts (left - 1) limit big t
+lasts_one left zero limit big p s t none some run lasts = lasts_run left zero limit big p s t (omega (arith, some)) run lasts
+lasts_one left (suc more) limit big p s t none some run lasts = absurd (omega (arith, none))

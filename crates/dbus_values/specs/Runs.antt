@@ -1,5 +1,5 @@
 -- Runs of steps of a walk that give the same part.
-use Rattle.std.specs.Prelude.{◌≡◌, ℕ, zero, suc, Bool, Result, Ok, Err}
+use Rattle.std.specs.Prelude.{◌≡◌, ℕ, zero, suc, Bool, List, ◌∷◌, Result, Ok, Err}
 use Rattle.dbus_values.specs.declared.fault.Fault.{Fault}
 use Rattle.dbus_values.specs.declared.part.Part.{Part}
 use Rattle.dbus_values.specs.declared.walk.Walk.{Walk}
@@ -16,3 +16,8 @@ Repeats (suc n) p limit big s t = (u : State) × (step limit big s ≡ Ok (p, u)
 abbrev pub RunLeads : ℕ → Bool → Result (Part × ℕ) Fault → Walk → Walk → Type 0
 RunLeads limit big (Ok (part, more)) walk before = Repeats (suc more) (piece part) limit big (place before) (place walk)
 RunLeads limit big (Err fault) walk before = step limit big (place before) ≡ Err fault
+
+-- the same piece so many times, and then these
+abbrev pub again : ℕ → Piece → List Piece → List Piece
+again zero p ps = ps
+again (suc n) p ps = p ∷ again n p ps

@@ -6,26 +6,33 @@ ghost use Rattle.dbus_values.specs.Walk.{state, parts, Lasts};
 
 use crate::cursor::Cursor;
 use crate::part::Part;
-use crate::walk::{Walk, next_part};
+use crate::runs::next_run;
+use crate::walk::Walk;
 use std::marker::Model;
 
 /// The parts of a message's body that have not been given yet. It takes no memory.
+///
+/// Of a part that comes several times in a row, the walk may have gone over them all: they are
+/// counted in `more`, and `left` of the parts stand behind the place of the walk.
 #[derive(Drop)]
 pub struct Parts<'a> {
     big: bool,
     left: usize,
     walk: Walk<'a>,
+    repeated: Part<'a>,
+    more: usize,
 }
 
 impl<'a> Model for Parts<'a> {
     ghost use Rattle.std.specs.Prelude.{List};
-    ghost use Rattle.dbus_values.specs.Parts.{Piece};
+    ghost use Rattle.dbus_values.specs.Parts.{Piece, piece};
+    ghost use Rattle.dbus_values.specs.Runs.{again};
     ghost use Rattle.dbus_values.specs.Walk.{parts, Lasts};
     ghost use Rattle.dbus_values.specs.Places.{place};
 
     ghost Value = { List Piece };
 
-    ghost view = { λ p. parts p.left 64 p.big (place p.walk) };
+    ghost view = { λ p. again p.more (piece p.repeated) (parts p.left 64 p.big (place p.walk)) };
 
     ghost invariant = { λ p. Lasts p.left 64 p.big (place p.walk) };
 }
@@ -40,6 +47,8 @@ impl<'a> Parts<'a> {
             big,
             left,
             walk: Walk::new(signature, from),
+            repeated: Part::Enter { kind: b'(' },
+            more: 0,
         }
     }
 
@@ -48,12 +57,22 @@ impl<'a> Parts<'a> {
         ensures next { self.old ≡ option_to_list (option_map piece result) ++ self.new }
         ensures end { IfNone result (self.old ≡ []) }
     {
+        if self.more > 0 {
+            self.more -= 1;
+            return Some(self.repeated);
+        }
         if self.left == 0 {
             return None;
         }
-        match next_part(64, self.big, &mut self.walk) {
-            Ok(part) => {
+        match next_run(64, self.big, &mut self.walk, self.left - 1) {
+            Ok((part, 0)) => {
                 self.left -= 1;
+                Some(part)
+            }
+            Ok((part, more)) => {
+                self.left -= more + 1;
+                self.repeated = part;
+                self.more = more;
                 Some(part)
             }
             Err(_) => unreachable!(),

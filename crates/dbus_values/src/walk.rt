@@ -616,15 +616,3 @@ pub fn next_short<'a>(limit: usize, big: bool, walk: &mut Walk<'a>) -> Option<Pa
         },
     }
 }
-
-/// The next part, found in short where that serves.
-#[inline(always)]
-pub fn next_part<'a>(limit: usize, big: bool, walk: &mut Walk<'a>) -> Result<Part<'a>, Fault>
-    requires { limit ≤ 64 }
-    ensures exact { Leads result walk.new (next_in limit big walk.old.frames walk.old.types.now walk.old.here.at walk.old.here.rest.now) }
-{
-    match next_short(limit, big, walk) {
-        Some(part) => Ok(part),
-        None => Ok(next_in(limit, big, walk)?),
-    }
-}
