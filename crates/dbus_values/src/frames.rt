@@ -10,6 +10,8 @@ use std::marker::Model;
 /// A container that is open, with what comes behind it.
 #[derive(Clone, Copy)]
 pub enum Frame<'a> {
+    /// A structure. It stands first, so that room for containers is made of zeros alone.
+    Members,
     /// An array: the signature of its items, the types behind it, the place behind it and the
     /// bytes from there on.
     Items {
@@ -18,8 +20,6 @@ pub enum Frame<'a> {
         behind: usize,
         outside: &'a [u8],
     },
-    /// A structure.
-    Members,
     /// A dict entry, of which the key comes next.
     Key,
     /// A dict entry, of which the value comes next.

@@ -13,26 +13,25 @@ const SLOTS: usize = 256;
 /// Items of arrays, each in the slot of the place where it was met.
 #[derive(Drop)]
 pub struct KnownItems<'a> {
-    slots: [&'a [u8]; 256],
+    slots: [Option<&'a [u8]>; 256],
 }
 
 impl<'a> Model for KnownItems<'a> {
     ghost use Rattle.std.specs.Prelude.{List, ℕ, length, ◌≡◌};
-    ghost use Rattle.dbus_values.specs.Known.{AllItems};
+    ghost use Rattle.dbus_values.specs.Known.{AllKnown};
 
     ghost Value = { Unit {0} };
 
     ghost view = { λ s. tt };
 
-    ghost invariant = { λ s. (length s.slots ≡ 256) × AllItems s.slots };
+    ghost invariant = { λ s. (length s.slots ≡ 256) × AllKnown s.slots };
 }
 
 impl<'a> KnownItems<'a> {
-    /// An item of one letter in each slot.
+    /// None is known. It is made of zeros alone, which takes less than other values.
     #[inline(always)]
     pub fn new() -> KnownItems<'a> {
-        let item: &'a [u8] = b"y";
-        KnownItems { slots: [item; 256] }
+        KnownItems { slots: [None; 256] }
     }
 
     /// What follows the item of an array. The place chooses the slot, and nothing else.
@@ -40,13 +39,14 @@ impl<'a> KnownItems<'a> {
         ensures exact { option_map (λ rest. rest.now) result ≡ after_item sig.now }
     {
         let slot = place % SLOTS;
-        let item = self.slots[slot];
-        if sig.starts_with(item) {
-            return Some(&sig[item.len()..]);
+        if let Some(item) = self.slots[slot] {
+            if sig.starts_with(item) {
+                return Some(&sig[item.len()..]);
+            }
         }
         match after_item(sig) {
             Some(rest) => {
-                self.slots[slot] = front_of(sig, rest);
+                self.slots[slot] = Some(front_of(sig, rest));
                 Some(rest)
             }
             None => None,
