@@ -158,3 +158,7 @@ parts_one left (suc more) limit big p s t none some run = absurd (omega (arith, 
 pub lasts_one : (left more limit : ℕ) (big : Bool) (p : Piece) (s t : State) → more ≡ 0 → 1 ≤ left → Repeats (suc more) p limit big s t → Lasts left limit big s → Lasts (left - 1) limit big t
 lasts_one left zero limit big p s t none some run lasts = lasts_run left zero limit big p s t (omega (arith, some)) run lasts
 lasts_one left (suc more) limit big p s t none some run lasts = absurd (omega (arith, none))
+
+-- one part, after nothing was done
+pub repeats_from : (limit : ℕ) (big : Bool) (p : Piece) (s t u : State) → t ≡ s → step limit big t ≡ Ok (p, u) → Repeats 1 p limit big s u
+repeats_from limit big p s t u same one = repeats_first 0 limit big p s u u (subst (λ (x : State). step limit big x ≡ Ok (p, u)) same one) (repeats_none limit big p u)

@@ -1,5 +1,5 @@
 -- Where the code's walk stands, and where a step leads it.
-use Rattle.std.specs.Prelude.{◌≡◌, Option, Some, None, Result, Ok, Err}
+use Rattle.std.specs.Prelude.{◌≡◌, Result, Ok, Err}
 use Rattle.dbus_values.specs.declared.fault.Fault.{Fault}
 use Rattle.dbus_values.specs.declared.part.Part.{Part}
 use Rattle.dbus_values.specs.declared.walk.Walk.{Walk}
@@ -13,8 +13,3 @@ place w = state w.frames w.types.now w.here.at w.here.rest.now
 abbrev pub Leads : Result Part Fault → Walk → Result (Piece × State) Fault → Type 0
 Leads (Ok part) walk read = read ≡ Ok (piece part, place walk)
 Leads (Err fault) walk read = read ≡ Err fault
-
--- the same of a step that is found in short, or not, which leaves the walk where it stood
-abbrev pub ShortLeads : Option Part → Walk → Walk → Result (Piece × State) Fault → Type 0
-ShortLeads (Some part) walk before read = read ≡ Ok (piece part, place walk)
-ShortLeads None walk before read = place walk ≡ place before

@@ -1,5 +1,5 @@
 -- Runs of steps of a walk that give the same part.
-use Rattle.std.specs.Prelude.{◌≡◌, ℕ, zero, suc, Bool, List, ◌∷◌, Result, Ok, Err}
+use Rattle.std.specs.Prelude.{◌≡◌, ℕ, zero, suc, Bool, List, ◌∷◌, Option, Some, None, Result, Ok, Err}
 use Rattle.dbus_values.specs.declared.fault.Fault.{Fault}
 use Rattle.dbus_values.specs.declared.part.Part.{Part}
 use Rattle.dbus_values.specs.declared.walk.Walk.{Walk}
@@ -11,6 +11,12 @@ use Rattle.dbus_values.specs.Places.{place}
 unfoldable pub Repeats : ℕ → Piece → ℕ → Bool → State → State → Type 0
 Repeats zero p limit big s t = s ≡ t
 Repeats (suc n) p limit big s t = (u : State) × (step limit big s ≡ Ok (p, u)) × Repeats n p limit big u t
+
+-- What was found in short, or not, which leaves the walk where it stood: a part that is what reading gives, and
+-- how often it comes again.
+abbrev pub ShortLeads : ℕ → Bool → Option (Part × ℕ) → Walk → Walk → Result (Piece × State) Fault → Type 0
+ShortLeads limit big (Some (one, more)) walk before read = (mid : State) × (read ≡ Ok (piece one, mid)) × Repeats more (piece one) limit big mid (place walk)
+ShortLeads limit big None walk before read = place walk ≡ place before
 
 -- what some steps returned, the part and how often it comes again, and where they left the walk
 abbrev pub RunLeads : ℕ → Bool → Result (Part × ℕ) Fault → Walk → Walk → Type 0

@@ -1,7 +1,7 @@
 // Runs of structures that begin, or end, right behind each other.
 ghost use Rattle.std.specs.Prelude.{◌≡◌, ◌<◌, ◌≤◌, ℕ, Bool, Some, IfOk, length, slice_index};
 ghost use Rattle.dbus_values.specs.Reading.{Gives};
-ghost use Rattle.dbus_values.specs.Parts.{piece, spot};
+ghost use Rattle.dbus_values.specs.Parts.{spot};
 ghost use Rattle.dbus_values.specs.Parts as part;
 ghost use Rattle.dbus_values.specs.Opened as opened_part;
 ghost use Rattle.dbus_values.specs.Opened.{innermost};
@@ -71,37 +71,38 @@ fn close_run<'a>(walk: &mut Walk<'a>, most: usize) -> usize
     n
 }
 
-/// Whether the types that are left begin with a letter.
+/// Opens more structures where one has just begun, up to so many, and tells how many.
 #[inline(always)]
-fn begins(letter: u8, sig: &[u8]) -> bool {
-    !sig.is_empty() && sig[0] == letter
-}
-
-/// Goes over the parts that are the same as the part before, where they begin or end structures,
-/// up to so many, and tells how many.
-#[inline(always)]
-fn run_behind<'a>(part: Part<'a>, limit: usize, walk: &mut Walk<'a>, most: usize) -> usize
+pub fn more_begun<'a>(limit: usize, walk: &mut Walk<'a>, most: usize) -> usize
     requires { limit ≤ 64 }
     ensures few { result ≤ most }
-    ensures run { (big : Bool) → Repeats result (piece part.entry) limit big (place walk.old) (place walk.new) }
+    ensures run { (big : Bool) → Repeats result (part.Enter 40) limit big (place walk.old) (place walk.new) }
 {
-    match part {
-        Part::Enter { kind: b'(' } => {
-            if begins(b'(', walk.types) && walk.frames.is_in_structure() {
-                open_run(limit, walk, most)
-            } else {
-                0
-            }
-        }
-        Part::Leave { kind: b'(' } => {
-            if begins(b')', walk.types) {
-                close_run(walk, most)
-            } else {
-                0
-            }
-        }
-        _ => 0,
+    if walk.types.is_empty() {
+        return 0;
     }
+    if walk.types[0] != b'(' {
+        return 0;
+    }
+    if !walk.frames.is_in_structure() {
+        return 0;
+    }
+    open_run(limit, walk, most)
+}
+
+/// Ends more structures where one has just ended, up to so many, and tells how many.
+#[inline(always)]
+pub fn more_ended<'a>(walk: &mut Walk<'a>, most: usize) -> usize
+    ensures few { result ≤ most }
+    ensures run { (limit : ℕ) (big : Bool) → Repeats result (part.Leave 40) limit big (place walk.old) (place walk.new) }
+{
+    if walk.types.is_empty() {
+        return 0;
+    }
+    if walk.types[0] != b')' {
+        return 0;
+    }
+    close_run(walk, most)
 }
 
 /// The next part, and how many of those behind it are the same and were gone over too, up to so
@@ -117,12 +118,12 @@ pub fn next_run<'a>(
     ensures exact { RunLeads limit big result walk.new walk.old }
     ensures few { IfOk result (λ (part, more). more ≤ most) }
 {
-    match next_short(limit, big, walk) {
-        Some(part) => {
-            let more = run_behind(part, limit, walk, most);
-            Ok((part, more))
-        }
-        None => Ok((next_in(limit, big, walk)?, 0)),
+    match next_short(limit, walk, most) {
+        Some((part, more)) => Ok((part, more)),
+        None => match next_in(limit, big, walk) {
+            Ok(part) => Ok((part, 0)),
+            Err(fault) => Err(fault),
+        },
     }
 }
 

@@ -1,5 +1,5 @@
 // A walk over values, part by part.
-ghost use Rattle.std.specs.Prelude.{◌≡◌, ◌<◌, ◌≤◌, ◌+◌, ◌-◌, ◌∷◌, [], false, Some, Ok, Err, MatchResult, length, take, drop, slice_index};
+ghost use Rattle.std.specs.Prelude.{◌≡◌, ◌<◌, ◌≤◌, ◌+◌, ◌-◌, ◌∷◌, [], Bool, false, Some, Ok, Err, IfSome, MatchResult, length, take, drop, slice_index};
 ghost use Rattle.dbus_values.specs.Reading.{Gives};
 ghost use Rattle.dbus_values.specs.Parts.{piece};
 ghost use Rattle.dbus_values.specs.Parts as part;
@@ -7,7 +7,8 @@ ghost use Rattle.dbus_values.specs.Opened as opened_part;
 ghost use Rattle.dbus_values.specs.Signatures.{after_item, after_type};
 ghost use Rattle.dbus_values.specs.Walk.{state, rest_of, resume, resumed, enter_array, enter_struct, enter_variant, enter_leaf, enter_by, enter_any, enter, enter_entry, enter_item, in_items, in_members, in_key, in_closing, next_in};
 ghost use Rattle.dbus_values.specs.Opened.{innermost, outer, is_variant};
-ghost use Rattle.dbus_values.specs.Places.{place, Leads, ShortLeads};
+ghost use Rattle.dbus_values.specs.Places.{place, Leads};
+ghost use Rattle.dbus_values.specs.Runs.{ShortLeads};
 
 use crate::basics::{gap, pad, u32_at};
 use crate::class::Class;
@@ -15,6 +16,7 @@ use crate::cursor::{Cursor, behind_first};
 use crate::fault::{Fault, FaultKind};
 use crate::frames::{Frame, Frames};
 use crate::part::Part;
+use crate::runs::{more_begun, more_ended};
 use crate::signature::{after_type, front_of, item_align};
 use crate::strings::{leaf_at, signature_at};
 
@@ -508,15 +510,21 @@ fn byte_part<'a>(walk: &mut Walk<'a>, types: &'a [u8]) -> Part<'a>
 /// padding.
 #[inline(always)]
 #[tactic(auto, using(crate::proofs::Short::enter_rules))]
-fn short_enter<'a>(limit: usize, big: bool, walk: &mut Walk<'a>, sig: &'a [u8]) -> Option<Part<'a>>
+fn short_enter<'a>(
+    limit: usize,
+    walk: &mut Walk<'a>,
+    sig: &'a [u8],
+    most: usize,
+) -> Option<(Part<'a>, usize)>
     requires limit { limit ≤ 64 }
     requires typed { 1 ≤ length sig.now }
     requires plain { is_variant (innermost walk.old.frames) ≡ false }
-    ensures exact { ShortLeads result walk.new walk.old (enter limit big walk.old.frames sig.now walk.old.here.at walk.old.here.rest.now) }
+    ensures few { IfSome result (λ (part, more). more ≤ most) }
+    ensures exact { (big : Bool) → ShortLeads limit big result walk.new walk.old (enter limit big walk.old.frames sig.now walk.old.here.at walk.old.here.rest.now) }
 {
     let types = behind_first(sig);
     if sig[0] == b'y' && !walk.here.rest.is_empty() {
-        return Some(byte_part(walk, types));
+        return Some((byte_part(walk, types), 0));
     }
     if sig[0] == b'('
         && !types.is_empty()
@@ -526,7 +534,8 @@ fn short_enter<'a>(limit: usize, big: bool, walk: &mut Walk<'a>, sig: &'a [u8]) 
     {
         walk.frames.push(Frame::Members);
         walk.types = types;
-        return Some(Part::Enter { kind: b'(' });
+        let more = more_begun(limit, walk, most);
+        return Some((Part::Enter { kind: b'(' }, more));
     }
     None
 }
@@ -536,19 +545,20 @@ fn short_enter<'a>(limit: usize, big: bool, walk: &mut Walk<'a>, sig: &'a [u8]) 
 #[tactic(auto, using(crate::proofs::Short::item_rules))]
 fn short_item<'a>(
     limit: usize,
-    big: bool,
     walk: &mut Walk<'a>,
     array: Array<'a>,
-) -> Option<Part<'a>>
+    most: usize,
+) -> Option<(Part<'a>, usize)>
     requires limit { limit ≤ 64 }
     requires open { Some (opened_part.Items array.item.now array.types.now array.behind.at array.behind.rest.now) ≡ innermost walk.old.frames }
-    ensures exact { ShortLeads result walk.new walk.old (next_in limit big walk.old.frames walk.old.types.now walk.old.here.at walk.old.here.rest.now) }
+    ensures few { IfSome result (λ (part, more). more ≤ most) }
+    ensures exact { (big : Bool) → ShortLeads limit big result walk.new walk.old (next_in limit big walk.old.frames walk.old.types.now walk.old.here.at walk.old.here.rest.now) }
 {
     if !walk.types.is_empty() || array.item.is_empty() || array.item[0] == b'{' {
         return None;
     }
     if !walk.here.rest.is_empty() {
-        return short_enter(limit, big, walk, array.item);
+        return short_enter(limit, walk, array.item, most);
     }
     if walk.frames.is_in_variant() {
         return None;
@@ -556,37 +566,40 @@ fn short_item<'a>(
     walk.frames.pop();
     walk.types = array.types;
     walk.here = array.behind;
-    Some(Part::Leave { kind: b'a' })
+    Some((Part::Leave { kind: b'a' }, 0))
 }
 
 /// The next member of a structure or its end, in short.
 #[inline(always)]
 #[tactic(auto, using(crate::proofs::Short::member_rules))]
-fn short_member<'a>(limit: usize, big: bool, walk: &mut Walk<'a>) -> Option<Part<'a>>
+fn short_member<'a>(limit: usize, walk: &mut Walk<'a>, most: usize) -> Option<(Part<'a>, usize)>
     requires limit { limit ≤ 64 }
     requires open { Some opened_part.Members ≡ innermost walk.old.frames }
-    ensures exact { ShortLeads result walk.new walk.old (next_in limit big walk.old.frames walk.old.types.now walk.old.here.at walk.old.here.rest.now) }
+    ensures few { IfSome result (λ (part, more). more ≤ most) }
+    ensures exact { (big : Bool) → ShortLeads limit big result walk.new walk.old (next_in limit big walk.old.frames walk.old.types.now walk.old.here.at walk.old.here.rest.now) }
 {
     let sig = walk.types;
     if sig.is_empty() {
         return None;
     }
     if sig[0] != b')' {
-        return short_enter(limit, big, walk, sig);
+        return short_enter(limit, walk, sig, most);
     }
     if walk.frames.is_in_variant() {
         return None;
     }
     walk.frames.pop();
     walk.types = behind_first(sig);
-    Some(Part::Leave { kind: b'(' })
+    let more = more_ended(walk, most);
+    Some((Part::Leave { kind: b'(' }, more))
 }
 
 /// The next part, where a look at the types tells it.
 #[inline(always)]
-pub fn next_short<'a>(limit: usize, big: bool, walk: &mut Walk<'a>) -> Option<Part<'a>>
+pub fn next_short<'a>(limit: usize, walk: &mut Walk<'a>, most: usize) -> Option<(Part<'a>, usize)>
     requires { limit ≤ 64 }
-    ensures exact { ShortLeads result walk.new walk.old (next_in limit big walk.old.frames walk.old.types.now walk.old.here.at walk.old.here.rest.now) }
+    ensures few { IfSome result (λ (part, more). more ≤ most) }
+    ensures exact { (big : Bool) → ShortLeads limit big result walk.new walk.old (next_in limit big walk.old.frames walk.old.types.now walk.old.here.at walk.old.here.rest.now) }
 {
     match walk.frames.top() {
         None => None,
@@ -606,9 +619,9 @@ pub fn next_short<'a>(limit: usize, big: bool, walk: &mut Walk<'a>) -> Option<Pa
                     types,
                     behind,
                 };
-                short_item(limit, big, walk, array)
+                short_item(limit, walk, array, most)
             }
-            Frame::Members => short_member(limit, big, walk),
+            Frame::Members => short_member(limit, walk, most),
             Frame::Key => None,
             Frame::Value => None,
             Frame::Closing => None,

@@ -1,18 +1,17 @@
-use Rattle.std.proofs.Common.{◌≡◌, Ok, subst}
+use Rattle.std.proofs.Common.{◌≡◌, Err, subst}
 use Rattle.dbus_values.specs.Walk.{State, step}
 use Rattle.dbus_values.specs.Parts.{piece}
 use Rattle.dbus_values.specs.Places.{place}
-use Rattle.dbus_values.proofs.Repeated.{repeats_none, repeats_first}
+use Rattle.dbus_values.proofs.Repeated.{repeats_first, repeats_from}
 use Rattle.dbus_values.proofs.runs.next_run.Goals as goal
 
 pub returns-in-Some-clause-exact : goal.returns-in-Some-clause-exact
 returns-in-Some-clause-exact c =
-    repeats_first c.run_behind-more.result c.args.limit c.args.big (piece c.in-Some.part) (place c.args.walk.now) (place c.next_short.new.walk) (place c.run_behind-more.new.walk)
-    c.in-Some.ensures.exact (c.run_behind-more.ensures.run c.args.big)
+    let h = c.in-Some.ensures.exact c.args.big in
+    repeats_first c.in-Some.more c.args.limit c.args.big (piece c.in-Some.part) (place c.args.walk.now) h.0 (place c.next_short.new.walk) h.1 h.2
 
-pub returns-in_ok-next_in-in-None-clause-exact : goal.returns-in_ok-next_in-in-None-clause-exact
-returns-in_ok-next_in-in-None-clause-exact c =
-    let p = piece c.in_ok-next_in-in-None.field-0 in
-    let end = place c.next_in.new.walk in
-    let one = subst (λ (s : State). step c.args.limit c.args.big s ≡ Ok (p, end)) c.in-None.ensures.exact c.in_ok-next_in-in-None.ensures.exact in
-    repeats_first 0 c.args.limit c.args.big p (place c.args.walk.now) end end one (repeats_none c.args.limit c.args.big p end)
+pub returns-in-Ok-clause-exact : goal.returns-in-Ok-clause-exact
+returns-in-Ok-clause-exact c = repeats_from c.args.limit c.args.big (piece c.in-Ok.part) (place c.args.walk.now) (place c.next_short.new.walk) (place c.next_in.new.walk) (c.in-None.ensures.exact c.args.big) c.in-Ok.ensures.exact
+
+pub returns-in-Err-clause-exact : goal.returns-in-Err-clause-exact
+returns-in-Err-clause-exact c = subst (λ (s : State). step c.args.limit c.args.big s ≡ Err c.in-Err.fault) (c.in-None.ensures.exact c.args.big) c.in-Err.ensures.exact
