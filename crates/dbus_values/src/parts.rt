@@ -11,15 +11,15 @@ use crate::walk::Walk;
 use std::marker::Model;
 
 /// The parts of a message's body that have not been given yet. It takes no memory.
-///
-/// Of a part that comes several times in a row, the walk may have gone over them all: they are
-/// counted in `more`, and `left` of the parts stand behind the place of the walk.
 #[derive(Drop)]
 pub struct Parts<'a> {
     big: bool,
+    /// How many parts stand behind the place of the walk.
     left: usize,
     walk: Walk<'a>,
+    /// A part that the walk went over several times at once.
     repeated: Part<'a>,
+    /// How often that part is still to be given, before those behind the place.
     more: usize,
 }
 
