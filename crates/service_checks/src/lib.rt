@@ -1,0 +1,27 @@
+//! The service with its clients, tested as a whole: over sockets, and over stations in memory.
+#![tactic(auto)]
+
+#[cfg(test)]
+mod alike;
+#[cfg(test)]
+mod board;
+#[cfg(test)]
+mod calls;
+#[cfg(test)]
+mod clients;
+#[cfg(test)]
+mod crossing;
+#[cfg(test)]
+mod cues;
+#[cfg(test)]
+mod files;
+#[cfg(test)]
+mod listening;
+#[cfg(test)]
+mod memory;
+#[cfg(test)]
+mod rows;
+#[cfg(test)]
+mod sockets;
+#[cfg(test)]
+mod wire;

@@ -1,0 +1,183 @@
+// A service over objects in memory.
+use crate::files::{joined, texts, tree};
+use authority_service::serve;
+use pk_outside::{
+    ByteLink, ByteSink, ByteSource, DoorPlan, ListStation, ListTree, Sink, Station, StationPlan,
+    Tree,
+};
+use pk_types::{NoMemory, Text};
+use serve_words::read_plan;
+use std::alloc::Global;
+use std::sync::Wait;
+use std::thread::Threads;
+
+/// The most bytes of a link or of an output.
+pub const ROOM: usize = 4096;
+
+/// A link: what it gives, and the room for what it is sent.
+#[derive(Clone, Copy)]
+pub struct LinkRow {
+    pub gives: &'static [&'static [u8]],
+    pub room: usize,
+}
+
+/// The call that fails, by its number.
+#[derive(Clone, Copy)]
+pub enum Fault {
+    /// None does.
+    None,
+    /// An accept of the first door.
+    Accept(u64),
+    /// A read of each of its links.
+    Read(u64),
+    /// A write of each of its links.
+    Write(u64),
+    /// A call of the tree.
+    Tree(u64),
+    /// A write of the output.
+    Output(u64),
+    /// The making of a door.
+    Door(u64),
+}
+
+/// The numbers of the calls that fail. None has the number 0.
+#[derive(Clone, Copy)]
+struct Calls {
+    accept: u64,
+    read: u64,
+    write: u64,
+    tree: u64,
+    output: u64,
+    door: u64,
+}
+
+/// No call fails.
+const NONE: Calls = Calls {
+    accept: 0,
+    read: 0,
+    write: 0,
+    tree: 0,
+    output: 0,
+    door: 0,
+};
+
+impl Fault {
+    fn calls(self) -> Calls {
+        match self {
+            Fault::None => NONE,
+            Fault::Accept(accept) => Calls { accept, ..NONE },
+            Fault::Read(read) => Calls { read, ..NONE },
+            Fault::Write(write) => Calls { write, ..NONE },
+            Fault::Tree(tree) => Calls { tree, ..NONE },
+            Fault::Output(output) => Calls { output, ..NONE },
+            Fault::Door(door) => Calls { door, ..NONE },
+        }
+    }
+}
+
+/// What a service is given: its words, the links of its doors, and the call that fails.
+#[derive(Clone, Copy)]
+pub struct Scene {
+    pub words: &'static [&'static str],
+    pub doors: &'static [&'static [LinkRow]],
+    pub fault: Fault,
+}
+
+/// How a service ended, what it wrote, and what came back to its station.
+#[derive(Drop)]
+pub struct Served {
+    pub end: String,
+    pub written: Vec<u8>,
+    pub station: ListStation,
+}
+
+/// The link of a row. A read gives at most 40 bytes, and a write takes 50.
+fn link(alloc: Global, row: &LinkRow, calls: Calls) -> Result<ByteLink, NoMemory> {
+    let bytes = joined(alloc, row.gives)?;
+    let (bytes, _) = bytes.as_slice().split_at(bytes.len().min(ROOM));
+    let reads = vec![in alloc; calls.read]?;
+    let writes = vec![in alloc; calls.write]?;
+    Ok(ByteLink::new(
+        ByteSource::new(bytes.to_vec(alloc)?, 40, reads),
+        ByteSink::new(alloc, row.room, 50, writes)?,
+    ))
+}
+
+/// What a door with these links gives.
+fn door(alloc: Global, rows: &[LinkRow], calls: Calls) -> Result<DoorPlan, NoMemory> {
+    let mut plan = DoorPlan::empty(alloc);
+    for row in rows {
+        plan.links.try_push(link(alloc, row, calls)?)?;
+    }
+    plan.failing = vec![in alloc; calls.accept]?;
+    Ok(plan)
+}
+
+/// The station of a scene.
+fn station(alloc: Global, scene: &Scene) -> Result<ListStation, NoMemory> {
+    let mut plan = StationPlan::empty(alloc);
+    let mut calls = scene.fault.calls();
+    plan.failing_doors = vec![in alloc; calls.door]?;
+    for rows in scene.doors {
+        plan.doors.try_push(door(alloc, rows, calls)?)?;
+        calls = NONE;
+    }
+    Ok(ListStation::new(alloc, plan))
+}
+
+/// Serves the plan that the words name, and answers the text of how it ended.
+fn serve_named<R: Threads + Wait + Sync, F: Tree, N: Station, O: Sink>(
+    rt: &R,
+    alloc: Global,
+    words: &[Text],
+    tree: &mut F,
+    station: &mut N,
+    output: &mut O,
+) -> Result<String, NoMemory> {
+    match read_plan(alloc, words)? {
+        Some(plan) => {
+            let end = serve(rt, alloc, &plan, tree, station, output);
+            Ok(format!(in alloc; "{end:?}")?)
+        }
+        None => Ok(String::from_str(alloc, "no plan")?),
+    }
+}
+
+/// Plays a scene.
+pub fn play<R: Threads + Wait + Sync>(
+    rt: &R,
+    alloc: Global,
+    scene: &Scene,
+) -> Result<Served, NoMemory> {
+    let words = texts(alloc, scene.words)?;
+    let calls = scene.fault.calls();
+    let mut tree = tree(alloc, vec![in alloc; calls.tree]?)?;
+    let mut station = station(alloc, scene)?;
+    let mut output = ByteSink::new(alloc, ROOM, ROOM, vec![in alloc; calls.output]?)?;
+    let end = serve_named(
+        rt,
+        alloc,
+        words.as_slice(),
+        &mut tree,
+        &mut station,
+        &mut output,
+    )?;
+    Ok(Served {
+        end,
+        written: output.bytes().to_vec(alloc)?,
+        station,
+    })
+}
+
+impl Served {
+    /// What the link was sent that this door gave at this place.
+    pub fn sent(&self, door: usize, link: usize) -> &[u8] {
+        let Some(door) = self.station.shut_doors().get(door) else {
+            return &[];
+        };
+        match door.links.get(link) {
+            Some(link) => link.written.as_slice(),
+            None => &[],
+        }
+    }
+}
