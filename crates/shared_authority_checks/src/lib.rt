@@ -4,4 +4,10 @@
 #![tactic(auto)]
 
 #[cfg(test)]
+mod ten_tests;
+#[cfg(test)]
 mod tests;
+#[cfg(test)]
+mod turns;
+#[cfg(test)]
+mod waiting_tests;
