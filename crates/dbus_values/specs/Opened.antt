@@ -50,6 +50,10 @@ abbrev pub is_structure : Option Open → Bool
 is_structure (Some Members) = true
 is_structure _ = false
 
+abbrev pub is_array : Option Open → Bool
+is_array (Some (Items item types behind outside)) = true
+is_array _ = false
+
 -- so many more structures inside each other
 unfoldable pub with_members : ℕ → List Open → List Open
 with_members zero fs = fs

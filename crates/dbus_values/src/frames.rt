@@ -1,9 +1,11 @@
 // The containers that are open, the innermost first.
-ghost use Rattle.std.specs.Prelude.{◌≡◌, ◌<◌, ◌≤◌, ◌+◌, ◌-◌, ◌∷◌, length, drop, [], Some, IfSome, false};
+ghost use Rattle.std.specs.Prelude.{◌≡◌, ◌<◌, ◌≤◌, ◌+◌, ◌-◌, ◌∷◌, length, drop, [], Some, IfSome, MatchOption, false};
 ghost use Rattle.std.specs.Option.{option_map};
-ghost use Rattle.dbus_values.specs.Opened.{opened, innermost, outer, is_variant, is_structure, with_members, seen, IsWithin, AllWithin};
+ghost use Rattle.dbus_values.specs.Opened.{opened, innermost, outer, is_variant, is_structure, is_array, with_members, seen, IsWithin, AllWithin};
+ghost use Rattle.dbus_values.specs.Opened as open_part;
 ghost use Rattle.dbus_values.specs.Signatures.{after_item};
 
+use crate::cursor::Cursor;
 use crate::known_items::KnownItems;
 use std::marker::Model;
 
@@ -30,6 +32,14 @@ pub enum Frame<'a> {
     Inner {
         types: &'a [u8],
     },
+}
+
+/// An array that is open: the signature of its items, and the types and the bytes behind it.
+#[derive(Clone, Copy)]
+pub struct Array<'a> {
+    pub item: &'a [u8],
+    pub types: &'a [u8],
+    pub behind: Cursor<'a>,
 }
 
 impl<'a> Frame<'a> {
@@ -171,6 +181,41 @@ impl<'a> Frames<'a> {
             None
         } else {
             Some(self.frames[self.len - 1])
+        }
+    }
+
+    /// The innermost, where it is an array.
+    #[inline(always)]
+    pub fn array(&self) -> Option<Array<'a>>
+        ensures exact { MatchOption result
+            (is_array (innermost self.now) ≡ false)
+            (λ array. Some (open_part.Items array.item.now array.types.now array.behind.at array.behind.rest.now) ≡ innermost self.now) }
+    {
+        match self.top() {
+            None => None,
+            Some(frame) => match frame {
+                Frame::Items {
+                    item,
+                    types,
+                    behind,
+                    outside,
+                } => {
+                    let behind = Cursor {
+                        at: behind,
+                        rest: outside,
+                    };
+                    Some(Array {
+                        item,
+                        types,
+                        behind,
+                    })
+                }
+                Frame::Members => None,
+                Frame::Key => None,
+                Frame::Value => None,
+                Frame::Closing => None,
+                Frame::Inner { .. } => None,
+            },
         }
     }
 

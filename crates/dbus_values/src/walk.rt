@@ -14,7 +14,7 @@ use crate::basics::{gap, pad, u32_at};
 use crate::class::Class;
 use crate::cursor::{Cursor, behind_first};
 use crate::fault::{Fault, FaultKind};
-use crate::frames::{Frame, Frames};
+use crate::frames::{Array, Frame, Frames};
 use crate::part::Part;
 use crate::runs::{more_begun, more_ended};
 use crate::signature::{after_type, front_of, item_align};
@@ -41,14 +41,6 @@ impl<'a> Walk<'a> {
             here,
         }
     }
-}
-
-/// An array that is open: the signature of its items, and the types and the bytes behind it.
-#[derive(Clone, Copy)]
-struct Array<'a> {
-    item: &'a [u8],
-    types: &'a [u8],
-    behind: Cursor<'a>,
 }
 
 /// What follows the complete type at the front of a signature, or a fault.
@@ -459,27 +451,13 @@ pub fn next_in<'a>(limit: usize, big: bool, walk: &mut Walk<'a>) -> Result<Part<
     requires { limit ≤ 64 }
     ensures exact { Leads result walk.new (next_in limit big walk.old.frames walk.old.types.now walk.old.here.at walk.old.here.rest.now) }
 {
+    if let Some(array) = walk.frames.array() {
+        return in_items(limit, big, walk, array);
+    }
     let sig = walk.types;
     match walk.frames.top() {
         None => enter(limit, big, walk, sig),
         Some(frame) => match frame {
-            Frame::Items {
-                item,
-                types,
-                behind,
-                outside,
-            } => {
-                let behind = Cursor {
-                    at: behind,
-                    rest: outside,
-                };
-                let array = Array {
-                    item,
-                    types,
-                    behind,
-                };
-                in_items(limit, big, walk, array)
-            }
             Frame::Members => in_members(limit, big, walk),
             Frame::Key => in_key(limit, big, walk),
             Frame::Value => {
@@ -489,6 +467,7 @@ pub fn next_in<'a>(limit: usize, big: bool, walk: &mut Walk<'a>) -> Result<Part<
             }
             Frame::Closing => in_closing(walk),
             Frame::Inner { .. } => enter(limit, big, walk, sig),
+            Frame::Items { .. } => unreachable!(),
         },
     }
 }
@@ -601,31 +580,11 @@ pub fn next_short<'a>(limit: usize, walk: &mut Walk<'a>, most: usize) -> Option<
     ensures few { IfSome result (λ (part, more). more ≤ most) }
     ensures exact { (big : Bool) → ShortLeads limit big result walk.new walk.old (next_in limit big walk.old.frames walk.old.types.now walk.old.here.at walk.old.here.rest.now) }
 {
-    match walk.frames.top() {
-        None => None,
-        Some(frame) => match frame {
-            Frame::Items {
-                item,
-                types,
-                behind,
-                outside,
-            } => {
-                let behind = Cursor {
-                    at: behind,
-                    rest: outside,
-                };
-                let array = Array {
-                    item,
-                    types,
-                    behind,
-                };
-                short_item(limit, walk, array, most)
-            }
-            Frame::Members => short_member(limit, walk, most),
-            Frame::Key => None,
-            Frame::Value => None,
-            Frame::Closing => None,
-            Frame::Inner { .. } => None,
-        },
+    if let Some(array) = walk.frames.array() {
+        return short_item(limit, walk, array, most);
     }
+    if walk.frames.is_in_structure() {
+        return short_member(limit, walk, most);
+    }
+    None
 }
