@@ -22,7 +22,7 @@ fn place(bytes: &[u8], separator: u8) -> usize
 /// What stands before the first separator, and what stands behind it; `None` exactly where there
 /// is none.
 pub fn cut(bytes: &[u8], separator: u8) -> Option<(&[u8], &[u8])>
-    ensures found { IfSome result (λ parts. IsCut separator bytes.now parts.0.now parts.1.now) }
+    ensures found { IfSome result (λ (before, behind). IsCut separator bytes.now before.now behind.now) }
     ensures none { IfNone result (Lacks separator bytes.now) }
 {
     let at = place(bytes, separator);
