@@ -11,8 +11,8 @@ use std::alloc::Global;
 
 /// The bytes before the first `\` or `;`, that byte, and the bytes behind it.
 fn next_special(bytes: &[u8]) -> Option<(&[u8], u8, &[u8])>
-    ensures found { IfSome result (λ x. (bytes.now ≡ x.0.now ++ x.1 ∷ x.2.now)
-        × IsPlain x.0.now × IsSpecial x.1) }
+    ensures found { IfSome result (λ (front, special, behind). (bytes.now ≡ front.now ++ special ∷ behind.now)
+        × IsPlain front.now × IsSpecial special) }
     ensures none { IfNone result (IsPlain bytes.now) }
 {
     for (i, b) in bytes.iter().enumerate() {

@@ -68,10 +68,10 @@ pub fn line_text(line: &[u8]) -> &[u8]
 /// The first line with its end, and the bytes behind it.
 pub fn next_line(bytes: &[u8]) -> Option<(&[u8], &[u8])>
     ensures end { IfNone result (bytes.now ≡ []) }
-    ensures line { IfSome result (λ x. raw_lines bytes.now ≡ x.0.now ∷ raw_lines x.1.now) }
-    ensures whole { IfSome result (λ x. length x.0.now + length x.1.now ≡ length bytes.now) }
-    ensures some { IfSome result (λ x. 0 < length x.0.now) }
-    ensures clean { IsClean bytes.now → IfSome result (λ x. IsClean x.0.now × IsClean x.1.now) }
+    ensures line { IfSome result (λ (line, behind). raw_lines bytes.now ≡ line.now ∷ raw_lines behind.now) }
+    ensures whole { IfSome result (λ (line, behind). length line.now + length behind.now ≡ length bytes.now) }
+    ensures some { IfSome result (λ (line, behind). 0 < length line.now) }
+    ensures clean { IsClean bytes.now → IfSome result (λ (line, behind). IsClean line.now × IsClean behind.now) }
 {
     if bytes.is_empty() {
         return None;
