@@ -194,8 +194,8 @@ impl ByteSink {
     /// What this sink and the source of its link hold when the link comes back, and the seat to
     /// keep it in.
     pub(crate) fn come_back(self, input: ByteSource) -> (ReturnedLink, Seat<ReturnedLink>)
-        ensures tells { EndsTell (source_origin input) (Some (source_left input)) (Some (sink_held self))
-            (source_calls input).faults (sink_calls self).faults result.0.path (link_back result.0) }
+        ensures tells { let (link, seat) = result in EndsTell (source_origin input) (Some (source_left input)) (Some (sink_held self))
+            (source_calls input).faults (sink_calls self).faults link.path (link_back link) }
     {
         let link = ReturnedLink {
             path: input.path,

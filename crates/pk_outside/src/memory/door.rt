@@ -111,7 +111,7 @@ impl ListDoor {
         clock: ListClock,
         salt: ListSalt,
     ) -> (ReturnedDoor, Seat<ReturnedDoor>)
-        ensures tells { door_back result.0 ≡ record { door = door_told self; readings = clock_gave clock; words = salt_gave salt } }
+        ensures tells { let (door, seat) = result in door_back door ≡ record { door = door_told self; readings = clock_gave clock; words = salt_gave salt } }
     {
         let door = ReturnedDoor {
             uid: self.uid,
