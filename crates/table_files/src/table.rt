@@ -39,8 +39,8 @@ fn is_passed_over(line: &[u8]) -> bool
 /// The first line, and what stands behind its end.
 fn next_line(bytes: &[u8]) -> Option<(&[u8], &[u8])>
     ensures end { IfNone result (bytes.now ≡ []) }
-    ensures line { IfSome result (λ x. lines_of bytes.now ≡ x.0.now ∷ lines_of x.1.now) }
-    ensures shorter { IfSome result (λ x. length x.1.now < length bytes.now) }
+    ensures line { IfSome result (λ (line, behind). lines_of bytes.now ≡ line.now ∷ lines_of behind.now) }
+    ensures shorter { IfSome result (λ (line, behind). length behind.now < length bytes.now) }
 {
     if bytes.is_empty() {
         return None;
