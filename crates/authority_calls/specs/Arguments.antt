@@ -15,7 +15,7 @@ Reading A = List Piece → Option (A × List Piece)
 
 abbrev pub go_on : {A B : Type 0} → (A → Reading B) → Option (A × List Piece) → Option (B × List Piece)
 go_on more None = None
-go_on more (Some x) = more x.0 x.1
+go_on more (Some (value, parts)) = more value parts
 
 -- one reading, and then another
 infixl 10 ◌>>=◌

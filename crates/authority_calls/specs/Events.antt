@@ -23,7 +23,7 @@ is_quiet flags = flags % (2 * NO_REPLY_EXPECTED) == NO_REPLY_EXPECTED
 -- the call of a method, where the arguments are those of the method
 abbrev pub call_with : Seen → Method → Call
 call_with m asked =
-    if bytes_eq (row_of asked).takes m.signature then option_map_or (λ x. x.0) (arguments asked m.parts) (call.Wrong ErrorCause.InvalidArgs)
+    if bytes_eq (row_of asked).takes m.signature then option_map_or (λ (said, _). said) (arguments asked m.parts) (call.Wrong ErrorCause.InvalidArgs)
     else call.Wrong ErrorCause.InvalidArgs
 
 -- the method that a message asks for

@@ -12,9 +12,9 @@ use Rattle.authority_calls.specs.Dictionaries.{one, two}
 -- a process by its pid and its start time
 abbrev pub process : Reading Subject
 process = do
-  found ← two (codes "pid") (codes "start-time")
-  pid ← chosen (as_u32 found.0)
-  start ← chosen (as_u64 found.1)
+  (pid_value, start_value) ← two (codes "pid") (codes "start-time")
+  pid ← chosen (as_u32 pid_value)
+  start ← chosen (as_u64 start_value)
   given (subject_kind.Process pid start)
 
 -- a session by its id

@@ -111,7 +111,7 @@ pub fn two<'a>(
     first: &[u8],
     second: &[u8],
 ) -> Result<(Part<'a>, Part<'a>), ArgumentFault>
-    ensures exact { TakesAs (λ x. (piece x.0, piece x.1)) (two first.now second.now) parts.old parts.new result }
+    ensures exact { TakesAs (λ (value, other). (piece value, piece other)) (two first.now second.now) parts.old parts.new result }
 {
     enter(parts)?;
     let mut first_found: Option<Part<'a>> = None;

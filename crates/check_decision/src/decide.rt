@@ -45,15 +45,16 @@ fn decided<'a>(
     if facts.uid == 0 {
         return DecisionRef::Root;
     }
-    if is_yes(value.0) {
-        return DecisionRef::Yes(value.1);
+    let (value, source) = value;
+    if is_yes(value) {
+        return DecisionRef::Yes(source);
     }
     if let Some(grant) = live_grant(grants, facts.key, action, moment) {
         return DecisionRef::Grant(grant.id);
     }
     match least_implying(loaded, grants, facts, moment, action) {
         Some(id) => DecisionRef::Imply(id),
-        None => by_value(value.0, value.1),
+        None => by_value(value, source),
     }
 }
 

@@ -41,7 +41,7 @@ fn implies(policy: &Policy, from: &Text, id: &Text) -> bool
 /// Whether the value of an action is yes for a subject of these facts.
 fn is_yes_for(loaded: &Loaded, facts: &Facts<'_>, id: &Text) -> bool
     requires entries { IsShort loaded.now.policy.entries }
-    ensures yes { result ≡ option_map_or (λ v. values.is_yes v.0) (rules.implicit loaded.now.policy loaded.now.world facts.now.uid facts.now.category id.now) false }
+    ensures yes { result ≡ option_map_or (λ (value, source). values.is_yes value) (rules.implicit loaded.now.policy loaded.now.world facts.now.uid facts.now.category id.now) false }
 {
     match implicit(&loaded.policy, &loaded.world, facts.uid, facts.category, id) {
         Some((value, _)) => is_yes(value),

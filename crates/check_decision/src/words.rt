@@ -44,8 +44,8 @@ fn front_len(text: &[u8]) -> usize
 
 /// The first word of a text, and what comes after it.
 pub fn next_word(text: &[u8]) -> Option<(&[u8], &[u8])>
-    ensures first { IfSome result (λ w. words text.now ≡ w.0.now ∷ words w.1.now) }
-    ensures shorter { IfSome result (λ w. length w.1.now < length text.now) }
+    ensures first { IfSome result (λ (word, after). words text.now ≡ word.now ∷ words after.now) }
+    ensures shorter { IfSome result (λ (word, after). length after.now < length text.now) }
     ensures none { IfNone result (words text.now ≡ []) }
 {
     let (_, rest) = text.split_at(blanks(text));

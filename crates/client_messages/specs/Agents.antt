@@ -36,7 +36,7 @@ question serial = do
 
 -- What a message asks of an agent. An action and a cookie have at most 65,535 bytes.
 abbrev pub begin_of : Seen → Option AgentBegin
-begin_of m = if is_begin m then option_map (λ x. x.0) (question m.serial m.parts) else None
+begin_of m = if is_begin m then option_map (λ (begin, _). begin) (question m.serial m.parts) else None
 
 -- what an agent replies to the call with a serial
 abbrev pub reply_for : AgentReply → ℕ → Outgoing

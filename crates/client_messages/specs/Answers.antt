@@ -35,7 +35,7 @@ name = text >>= λ bytes. given (answer.Name bytes)
 
 -- what a body is read as; one with a text over 65,535 bytes is another
 abbrev pub read_as : Reading ClientAnswer → Seen → ClientAnswer
-read_as reading m = option_map_or (λ x. x.0) (reading m.parts) answer.Other
+read_as reading m = option_map_or (λ (told, _). told) (reading m.parts) answer.Other
 
 -- what a return tells, by the signature of its body: that of a check's reply, that of an announcement's, or none
 abbrev pub returned : Seen → ClientAnswer

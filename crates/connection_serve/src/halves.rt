@@ -47,10 +47,10 @@ fn beside<
     requires number { of ≡ pass.old.number }
     requires fresh { NoneBy caller_of pass.old.number pass.old.history }
     requires fresh_collector { NoneBy caller_of collector.old.number collector.old.history }
-    ensures reads { ReadsTo L.limits uid (hand pass.old (I.left source.old) (C.gave clock.old) (S.gave salt.old) buffer.old)
-        (hand pass.new (I.left source.new) (C.gave clock.new) (S.gave salt.new) buffer.new) (I.ended source.new) result.1 }
-    ensures faults { ReadFaults I.left I.faults source.old source.new result.1 }
-    ensures writes { WritesTo L.limits of (O.held sink.old) (O.faults sink.old) collector.old (O.held sink.new) (O.faults sink.new) collector.new result.0 }
+    ensures reads { let (wrote, read) = result in ReadsTo L.limits uid (hand pass.old (I.left source.old) (C.gave clock.old) (S.gave salt.old) buffer.old)
+        (hand pass.new (I.left source.new) (C.gave clock.new) (S.gave salt.new) buffer.new) (I.ended source.new) read }
+    ensures faults { let (wrote, read) = result in ReadFaults I.left I.faults source.old source.new read }
+    ensures writes { let (wrote, read) = result in WritesTo L.limits of (O.held sink.old) (O.faults sink.old) collector.old (O.held sink.new) (O.faults sink.new) collector.new wrote }
     ensures origin { I.origin source.new ≡ I.origin source.old }
 {
     let for_reader = alloc;

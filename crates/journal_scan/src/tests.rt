@@ -54,12 +54,12 @@ fn event_of(kind: Kind) -> Event {
     }
 }
 
-fn outputs_of(alloc: Global, row: Row) -> Result<OutputList, NoMemory> {
+fn outputs_of(alloc: Global, caller: u32, kind: Kind) -> Result<OutputList, NoMemory> {
     let mut outputs = List::new(alloc);
-    match row.2 {
+    match kind {
         Kind::Reloads => {
             outputs.try_push(Output {
-                to: row.0,
+                to: caller,
                 message: Message::Changed,
             })?;
             outputs.try_push(Output {
@@ -77,12 +77,13 @@ fn outputs_of(alloc: Global, row: Row) -> Result<OutputList, NoMemory> {
 }
 
 fn push(alloc: Global, entries: &mut EntryList, row: Row) -> Result<(), NoMemory> {
+    let Row(caller, moment, kind) = row;
     entries.try_push(Entry {
-        caller: row.0,
-        moment: row.1,
+        caller,
+        moment,
         salt: 0,
-        event: event_of(row.2),
-        outputs: outputs_of(alloc, row)?,
+        event: event_of(kind),
+        outputs: outputs_of(alloc, caller, kind)?,
     })
 }
 

@@ -13,7 +13,7 @@ use Rattle.journal_state.specs.declared.collections.Collection.{Collection}
 
 -- the order of pairs of connections
 abbrev pub pair_cmp : ℕ × ℕ → ℕ × ℕ → Ordering
-pair_cmp a b = ordering_then (nat_cmp a.0 b.0) (nat_cmp a.1 b.1)
+pair_cmp a b = let (by, of) = a in let (other_by, other_of) = b in ordering_then (nat_cmp by other_by) (nat_cmp of other_of)
 
 -- the count of a collector and a connection
 abbrev pub collection_of : List ((ℕ × ℕ) × ℕ) → ℕ → ℕ → Option ℕ

@@ -127,7 +127,7 @@ fn row_after(world: &World, row: Option<Connection>, event: &Event) -> Option<Co
 fn live_in(alloc: Global, rows: &BTreeMap<u32, Connection>) -> Result<Vec<u32>, NoMemory>
     ensures live { IfOk result (λ v. v.items ≡ live_rows rows.now.entries) }
     ensures ordered { IsOrdered nat_cmp rows.now }
-    ensures found { All (λ e. row_of rows.now.entries e.0 ≡ Some e.1) rows.now.entries }
+    ensures found { All (λ (caller, row). row_of rows.now.entries caller ≡ Some row) rows.now.entries }
 {
     let mut live = Vec::new(alloc);
     for (caller, row) in rows.iter() {

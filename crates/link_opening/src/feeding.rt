@@ -40,10 +40,10 @@ pub fn feed_bytes<O: Sink>(
     bytes: &[u8],
 ) -> (usize, Option<ShakeStop>)
     ensures feeds { (door : ℕ) (before : List ℕ) (held : Option (List ℕ)) → Fed door guid before held (O.held sink.old) shake.old
-        → MatchOption result.1 (Fed door guid (before ++ bytes.now) held (O.held sink.new) shake.new) (λ stop. StopsAt door guid (before ++ take result.0 bytes.now) held (O.held sink.new) stop) }
-    ensures faults { MatchOption result.1 (O.faults sink.new ≡ O.faults sink.old) (λ stop. StopFaults O.held O.faults sink.old sink.new stop) }
-    ensures within { result.0 ≤ length bytes.now }
-    ensures all { IfNone result.1 (result.0 ≡ length bytes.now) }
+        → let (fed, stopped) = result in MatchOption stopped (Fed door guid (before ++ bytes.now) held (O.held sink.new) shake.new) (λ stop. StopsAt door guid (before ++ take fed bytes.now) held (O.held sink.new) stop) }
+    ensures faults { let (fed, stopped) = result in MatchOption stopped (O.faults sink.new ≡ O.faults sink.old) (λ stop. StopFaults O.held O.faults sink.old sink.new stop) }
+    ensures within { let (fed, stopped) = result in fed ≤ length bytes.now }
+    ensures all { let (fed, stopped) = result in IfNone stopped (fed ≡ length bytes.now) }
 {
     let mut fed = 0;
     for byte in bytes {

@@ -18,9 +18,9 @@ fn shaken(
     door: u32,
     bytes: &[u8],
 ) -> Result<(Vec<ShakeReply>, ShakeStep, usize), AllocError>
-    ensures replies { IfOk result (λ got. (shake door bytes.now).replies ≡ got.0.items) }
+    ensures replies { IfOk result (λ (replies, last, at). (shake door bytes.now).replies ≡ replies.items) }
     ensures standing { IfOk result
-        (λ got. (shake door bytes.now).standing ≡ stands got.1 (drop (got.2 + 1) bytes.now)) }
+        (λ (replies, last, at). (shake door bytes.now).standing ≡ stands last (drop (at + 1) bytes.now)) }
 {
     let mut handshake = Handshake::new(door);
     let mut replies = Vec::new(alloc);
@@ -165,9 +165,9 @@ fn lines_are_answered(rt: HostRuntime) -> Result<(), Fail> {
     ];
     for (door, sent, replies, last) in rows {
         let bytes = lines(rt.alloc(), sent)?;
-        let got = shaken(rt.alloc(), door, bytes.as_slice())?;
-        assert!(rt; got.0.as_slice() == replies, "{door} {sent:?}");
-        assert!(rt; got.1 == last, "{door} {sent:?}");
+        let (replied, ended, _) = shaken(rt.alloc(), door, bytes.as_slice())?;
+        assert!(rt; replied.as_slice() == replies, "{door} {sent:?}");
+        assert!(rt; ended == last, "{door} {sent:?}");
     }
     Ok(())
 }
@@ -203,9 +203,9 @@ fn hostile_bytes_end_it(rt: HostRuntime) -> Result<(), Fail> {
         (b"", 0, ShakeStep::More, 0),
     ];
     for (bytes, replies, last, at) in rows {
-        let got = shaken(rt.alloc(), 0, bytes)?;
-        assert!(rt; got.0.len() == replies, "{bytes:?}");
-        assert!(rt; got.1 == last && got.2 == at, "{bytes:?}");
+        let (replied, ended, ended_at) = shaken(rt.alloc(), 0, bytes)?;
+        assert!(rt; replied.len() == replies, "{bytes:?}");
+        assert!(rt; ended == last && ended_at == at, "{bytes:?}");
     }
     Ok(())
 }
@@ -263,15 +263,17 @@ fn the_client_awaits_its_line(rt: HostRuntime) -> Result<(), Fail> {
     ];
     for (bytes, want, want_at) in rows {
         let mut client = ClientShake::new();
-        let mut got = (ClientStep::More, bytes.len());
+        let mut last = ClientStep::More;
+        let mut at = bytes.len();
         for (i, byte) in bytes.iter().enumerate() {
             let step = client.feed(*byte);
-            if got.0 == ClientStep::More && step != ClientStep::More {
-                got = (step, i);
+            if last == ClientStep::More && step != ClientStep::More {
+                last = step;
+                at = i;
             }
-            assert!(rt; got.0 == step, "an end is answered again");
+            assert!(rt; last == step, "an end is answered again");
         }
-        assert!(rt; got == (want, want_at), "{bytes:?}");
+        assert!(rt; last == want && at == want_at, "{bytes:?}");
     }
     Ok(())
 }

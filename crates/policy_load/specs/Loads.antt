@@ -75,10 +75,10 @@ processes_in tree root sessions = table tree root (codes "tables/processes") >>=
 abbrev pub world_in : TreeTold → Bytes → Result World LoadRefused
 world_in tree root = do
   users ← users_in tree root
-  both ← groups_in tree root users
+  (groups, members) ← groups_in tree root users
   sessions ← sessions_in tree root
   processes ← processes_in tree root sessions
-  Ok (record { users = both.1; groups = both.0; sessions = sessions; processes = processes })
+  Ok (record { users = members; groups = groups; sessions = sessions; processes = processes })
 
 -- # The load
 

@@ -235,11 +235,12 @@ const LONG_LINES: [LongRow; 13] = [
 ];
 
 fn long_line(alloc: Global, row: &LongRow) -> Result<Vec<u8>, AllocError> {
-    let mut line = Vec::from_slice(alloc, row.0.as_bytes())?;
-    for _ in 0..row.2 {
-        line.push(row.1)?;
+    let (front, byte, times, end, _) = *row;
+    let mut line = Vec::from_slice(alloc, front.as_bytes())?;
+    for _ in 0..times {
+        line.push(byte)?;
     }
-    line.extend_from_slice(row.3.as_bytes())?;
+    line.extend_from_slice(end.as_bytes())?;
     Ok(line)
 }
 
@@ -488,7 +489,7 @@ fn long_lines_are_read(rt: HostRuntime) -> Result<(), Fail> {
     for row in LONG_LINES.iter() {
         let line = long_line(rt.alloc(), row)?;
         let said = shown(rt.alloc(), line.as_slice())?;
-        let (front, want) = (row.0, row.4);
+        let (front, _, _, _, want) = *row;
         assert_eq!(rt; said.as_str(), want, "at {front}");
     }
     Ok(())

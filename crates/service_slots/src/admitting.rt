@@ -14,7 +14,7 @@ fn admit_passes<L: LimitsName, T: TableName, R: Wait>(
     shared: &Shared<L, T>,
     pass: &mut Pass<Kept<L>, T>,
 ) -> Result<(Pass<Kept<L>, T>, Pass<Kept<L>, T>), u32>
-    ensures fresh { IfOk result (λ passes. IsFresh passes.0 passes.1) }
+    ensures fresh { IfOk result (λ (first, second). IsFresh first second) }
     ensures full { IfErr result (λ admitted. AllAdmitted admitted pass.new.made) }
     ensures grows { IsPrefix pass.old.history pass.new.history }
 {
@@ -38,7 +38,7 @@ pub(crate) fn admit_two<L: LimitsName, T: TableName, R: Wait>(
     shared: &Shared<L, T>,
     pass: &mut Pass<Kept<L>, T>,
 ) -> Result<(Pass<Kept<L>, T>, Pass<Kept<L>, T>), EndCause>
-    ensures fresh { IfOk result (λ passes. IsFresh passes.0 passes.1) }
+    ensures fresh { IfOk result (λ (first, second). IsFresh first second) }
     ensures fits { IfErr result (λ cause. Fits L.limits cause pass.new.history pass.new.made) }
     ensures grows { IsPrefix pass.old.history pass.new.history }
 {

@@ -129,8 +129,8 @@ pub fn serve_beside_loader<
         rt,
         move || -> (Pass<Kept<L>, T>, LoaderEnd, u64)
             requires { (zero.number ≡ 0) × (uid_of (past_of zero.history) 0 ≡ None) }
-            ensures loads { Loads L.limits (F.told tree.entry.now) root.entry.now (F.faults tree.entry.now) result.2 zero result.0 result.1 }
-            ensures zero { (result.0.number ≡ 0) × IsPrefix zero.history result.0.history }
+            ensures loads { let (pass, end, faults) = result in Loads L.limits (F.told tree.entry.now) root.entry.now (F.faults tree.entry.now) faults zero pass end }
+            ensures zero { let (pass, end, faults) = result in (pass.number ≡ 0) × IsPrefix zero.history pass.history }
         {
             let end = serve_loader(rt, for_loader, shared, &mut zero, root, tree);
             (zero, end, tree.faults())
@@ -142,11 +142,11 @@ pub fn serve_beside_loader<
         )
             requires { All (λ s. NoneEnded s.lines.items) slots.items }
             ensures slots { All (λ s. SlotOf s.pass.history (D.owner s.door) (D.told s.door) (C.gave s.clock) (S.gave s.salt) s.lines.items) slots.items
-                → All (λ s. SlotOf s.pass.history (D.owner s.door) (D.told s.door) (C.gave s.clock) (S.gave s.salt) s.lines.items) result.2.items }
-            ensures doors { map (λ s. made_of (D.told s.door)) result.2.items ≡ map (λ s. made_of (D.told s.door)) slots.items }
-            ensures stopped { All (λ s. IsStopped L.limits most s.pass (D.told s.door) (D.faults s.door) s.lines.items s.stop) result.2.items }
-            ensures stops { StopsLoader L.limits control result.0 result.1 }
-            ensures control { IsPrefix control.history result.0.history }
+                → let (pass, stopped, served) = result in All (λ s. SlotOf s.pass.history (D.owner s.door) (D.told s.door) (C.gave s.clock) (S.gave s.salt) s.lines.items) served.items }
+            ensures doors { let (pass, stopped, served) = result in map (λ s. made_of (D.told s.door)) served.items ≡ map (λ s. made_of (D.told s.door)) slots.items }
+            ensures stopped { let (pass, stopped, served) = result in All (λ s. IsStopped L.limits most s.pass (D.told s.door) (D.faults s.door) s.lines.items s.stop) served.items }
+            ensures stops { let (pass, stopped, served) = result in StopsLoader L.limits control pass stopped }
+            ensures control { let (pass, stopped, served) = result in IsPrefix control.history pass.history }
         {
             let stopped = serve_then_stop(rt, for_slots, shared, most, &mut control, &mut slots);
             (control, stopped, slots)

@@ -50,7 +50,7 @@ pub(crate) fn two_passes<L: LimitsName, T: TableName, R: Wait>(
     shared: &Shared<L, T>,
     zero: &mut Pass<Kept<L>, T>,
 ) -> Result<(Pass<Kept<L>, T>, Pass<Kept<L>, T>), Fail>
-    ensures { IfOk result (λ passes. IsFresh passes.0 passes.1) }
+    ensures { IfOk result (λ (pass, collector). IsFresh pass collector) }
 {
     let _number = zero.number();
     let mut pass = new_pass(rt, shared, zero)?;

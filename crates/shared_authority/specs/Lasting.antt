@@ -29,8 +29,9 @@ bytes_grow list more =
 -- a cause that fits goes on to fit
 pub fits_lasts : (limits : Limits) (cause : EndCause) (list more : List Item) (m n : ℕ) → Fits limits cause list m → IsJournal more → IsPrefix list more → m ≤ n → n ≤ 1048576 → Fits limits cause more n
 fits_lasts limits (JournalFull entries bytes) list more m n fits journal begins le top =
-    let longer = sym (ap length begins.1) ∙ length-append list begins.0 in
-    let counted = ap (λ (l : List Item). counted_bytes (past_of l)) (sym begins.1) ∙ bytes_grow list begins.0 in
+    let (added, goes_on) = begins in
+    let longer = sym (ap length goes_on) ∙ length-append list added in
+    let counted = ap (λ (l : List Item). counted_bytes (past_of l)) (sym goes_on) ∙ bytes_grow list added in
     record {
       entries_are = omega (arith, fits.entries_are, longer);
       bytes_are = omega (arith, fits.bytes_are, counted);

@@ -239,11 +239,12 @@ fn submit_beside<
     );
     assert_eq!(rt; counts, (100, 100));
     shared.meet(&mut one, &mut two);
-    let numbers = (one.number(), two.number());
+    let first = one.number();
+    let second = two.number();
     let authority = shared.close(two);
     assert_eq!(rt; authority.history().entries.len(), 200);
-    assert!(rt; are_in_order(&authority, numbers.0));
-    assert!(rt; are_in_order(&authority, numbers.1));
+    assert!(rt; are_in_order(&authority, first));
+    assert!(rt; are_in_order(&authority, second));
     Ok(())
 }
 
