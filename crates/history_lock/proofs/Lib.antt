@@ -1,6 +1,7 @@
 pub mod Prefixes
 pub mod Knowing
 pub mod Places
+pub mod Waking
 pub mod Moves
 pub mod Keeps
 pub mod Growth

@@ -5,5 +5,7 @@ pub mod Rule
 pub mod PlainRule
 pub mod Kinds
 pub mod Names
+pub mod Views
+pub mod Waking
 pub mod Plays
 pub mod Calls

@@ -11,10 +11,13 @@ mod pass;
 mod plays;
 mod refused;
 mod steps;
+mod turns;
 mod view;
+mod woken;
 
 pub use lock::{HistoryLock, Opened, open_table};
 pub use machine::{EndCause, Machine};
 pub use pass::{Pass, TableName};
 pub use refused::{AdmitRefused, CallRefused};
 pub use view::{Counted, Kind, View};
+pub use woken::Woken;

@@ -11,11 +11,12 @@ use crate::machine::{EndCause, Machine};
 use crate::pass::{Pass, TableName};
 use crate::refused::{AdmitRefused, CallRefused};
 use crate::steps;
+use crate::turns::Turns;
 use crate::view::{LockSeat, LockTable};
 use pk_types::NoMemory;
 use std::alloc::Global;
 use std::marker::{Model, PhantomData};
-use std::sync::{Condvar, Mutex, Wait};
+use std::sync::{Mutex, Wait};
 
 /// A table that was just opened, for one lock. Contracts see its name.
 #[derive(Drop)]
@@ -57,7 +58,7 @@ pub fn open_table<M: Machine>(alloc: Global) -> Result<Opened<M>, NoMemory>
 pub struct HistoryLock<M: Machine, T: TableName> {
     table: LockTable<M>,
     locked: Mutex<Locked<M, T>>,
-    turn: Condvar,
+    turns: Turns,
     ghost named: { table.shared.table_id ≡ T.table },
     ghost one_word: { table.shared.table_id.words ≡ 1 },
 }
@@ -91,7 +92,7 @@ impl<M: Machine, T: TableName> HistoryLock<M, T> {
         let lock = HistoryLock {
             table,
             locked: Mutex::new(locked),
-            turn: Condvar::new(),
+            turns: Turns::new(),
         };
         Ok((lock, pass))
     }
@@ -130,8 +131,11 @@ impl<M: Machine, T: TableName> HistoryLock<M, T> {
         ensures number { pass.new.number ≡ pass.old.number }
         ensures grows { IsPrefix pass.old.history pass.new.history }
     {
-        let answer = self.locked.lock(rt).call(&self.table, pass, op);
-        self.turn.notify_all();
+        let mut locked = self.locked.lock(rt);
+        let answer = locked.call(&self.table, pass, op);
+        let woken = locked.woken(answer.is_ok());
+        drop(locked);
+        self.turns.wake(woken);
         answer
     }
 
@@ -151,11 +155,13 @@ impl<M: Machine, T: TableName> HistoryLock<M, T> {
     {
         let number = pass.number();
         let mut locked = self
-            .turn
+            .turns
+            .of(M::awaits(&op))
             .wait_while(rt, self.locked.lock(rt), |l| l.waits(number, &op));
         let answer = locked.call(&self.table, pass, op);
+        let woken = locked.woken(answer.is_ok());
         drop(locked);
-        self.turn.notify_all();
+        self.turns.wake(woken);
         answer
     }
 
@@ -172,7 +178,7 @@ impl<M: Machine, T: TableName> HistoryLock<M, T> {
         ensures knew { IfSome pass.old.ended (λ known. result ≡ known) }
     {
         let kept = self.locked.lock(rt).end(&self.table, pass, cause);
-        self.turn.notify_all();
+        self.turns.wake_all();
         kept
     }
 
@@ -210,7 +216,7 @@ impl<M: Machine, T: TableName> HistoryLock<M, T> {
         let HistoryLock {
             table,
             locked,
-            turn: _,
+            turns: _,
         } = self;
         let Locked {
             machine,

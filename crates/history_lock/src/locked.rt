@@ -1,10 +1,12 @@
 // The value under the lock, and what a call does while it holds it.
-ghost use Rattle.std.specs.Prelude.{max, ◌≡◌, ℕ, suc, ◌+◌, ◌<◌, ◌≤◌, ◌⊎◌, List, [], length, None, Some, IfOk, IfErr, MatchResult, MatchOption, IfSome, IsSome, true, false};
+ghost use Rattle.std.specs.Prelude.{max, ◌≡◌, ℕ, suc, ◌+◌, ◌<◌, ◌≤◌, ◌⊎◌, List, [], ◌∷◌, ◌++◌, length, None, Some, IfOk, IfErr, MatchResult, MatchOption, IfSome, IsSome, true, false};
 ghost use mathlib.Core.List.{IsPrefix};
 ghost use Rattle.history_lock.specs.declared.view.Kind.TheVariants.{Book};
 ghost use Rattle.history_lock.specs.Entries.{CallersBelow, OwnBelow, OwnBelowOrLast};
 ghost use Rattle.history_lock.specs.Causes.{KnowsEnd, known_or};
 ghost use Rattle.history_lock.specs.Names.{IsNamed};
+ghost use Rattle.history_lock.specs.Views.{view_of, with_view};
+ghost use Rattle.history_lock.specs.Waking.{Wakes};
 ghost use Rattle.history_lock.specs.Kinds.{ended_by, longer_of};
 ghost use Rattle.history_lock.specs.Calls.{Learned, Answered, Refused, IsEndedBy, Admitted, NoneAdmitted};
 
@@ -13,6 +15,7 @@ use crate::pass::{Pass, TableName};
 use crate::refused::{AdmitRefused, CallRefused};
 use crate::steps;
 use crate::view::{LockSeat, LockTable};
+use crate::woken::Woken;
 use std::marker::{Brand, Model, PhantomData};
 
 /// How many passes a lock has.
@@ -33,13 +36,14 @@ impl<M: Machine, T: TableName> Model for Locked<M, T> {
     ghost use Rattle.std.specs.Prelude.{◌≡◌, ◌≤◌};
     ghost use Rattle.history_lock.specs.Known.{Held};
     ghost use Rattle.history_lock.specs.Calls.{IsBook, CauseFits};
+    ghost use Rattle.history_lock.specs.Views.{view_of};
 
     ghost Value = { Held M.Item };
 
     ghost view = { λ l. record { entries = M.entries l.machine; made = l.made; ended = l.cause } };
 
     ghost invariant = { λ l. (l.book.table_id ≡ T.table)
-        × IsBook l.book.me.0 (M.entries l.machine) l.made l.cause
+        × IsBook (view_of l.book.me) (M.entries l.machine) l.made l.cause
         × (l.made ≤ 1048576)
         × CauseFits M.fits l.cause (M.entries l.machine) l.made };
 }
@@ -53,24 +57,24 @@ pub fn settle_receipt<M: Machine, T: TableName>(
 )
     requires table { IsNamed table.now.shared.table_id T.table }
     requires seat { book.old.table_id ≡ T.table }
-    requires book { book.old.me.0.kind ≡ Book }
-    ensures seat { (book.new.table_id ≡ T.table) × (book.new.me.0.kind ≡ Book) }
-    ensures book_history { book.new.me.0.history ≡ book.old.me.0.history }
-    ensures book_made { book.new.me.0.made ≡ book.old.me.0.made }
-    ensures book_ended { book.new.me.0.ended ≡ book.old.me.0.ended }
-    ensures idle { book.old.me.0.in_flight ≡ None → book.new.me.0.in_flight ≡ None }
-    ensures lands { book.old.me.0.in_flight ≡ Some pass.old.number
-        → pass.old.history ≡ book.old.me.0.history
-        → book.new.me.0.in_flight ≡ None }
+    requires book { (view_of book.old.me).kind ≡ Book }
+    ensures seat { (book.new.table_id ≡ T.table) × ((view_of book.new.me).kind ≡ Book) }
+    ensures book_history { (view_of book.new.me).history ≡ (view_of book.old.me).history }
+    ensures book_made { (view_of book.new.me).made ≡ (view_of book.old.me).made }
+    ensures book_ended { (view_of book.new.me).ended ≡ (view_of book.old.me).ended }
+    ensures idle { (view_of book.old.me).in_flight ≡ None → (view_of book.new.me).in_flight ≡ None }
+    ensures lands { (view_of book.old.me).in_flight ≡ Some pass.old.number
+        → pass.old.history ≡ (view_of book.old.me).history
+        → (view_of book.new.me).in_flight ≡ None }
     ensures pass { pass.new ≡ pass.old }
-    ensures begins { IsPrefix pass.old.history book.old.me.0.history }
-    ensures made { pass.old.made ≤ book.old.me.0.made }
+    ensures begins { IsPrefix pass.old.history (view_of book.old.me).history }
+    ensures made { pass.old.made ≤ (view_of book.old.me).made }
     ensures ended { KnowsEnd pass.old.ended pass.old.history
-        book.old.me.0.ended book.old.me.0.history }
-    ensures top { book.old.me.0.made ≤ 1048576 }
+        (view_of book.old.me).ended (view_of book.old.me).history }
+    ensures top { (view_of book.old.me).made ≤ 1048576 }
     ensures number { pass.old.number < pass.old.made }
-    ensures legal { M.legal book.old.me.0.history }
-    ensures callers { CallersBelow M.caller_of book.old.me.0.history book.old.me.0.made }
+    ensures legal { M.legal (view_of book.old.me).history }
+    ensures callers { CallersBelow M.caller_of (view_of book.old.me).history (view_of book.old.me).made }
 {
     let token = steps::receipt(table, &mut pass.seat);
     steps::settle(table, book, token);
@@ -86,20 +90,20 @@ pub fn take_note_of_book<M: Machine, T: TableName>(
 )
     requires table { IsNamed table.now.shared.table_id T.table }
     requires seat { book.old.table_id ≡ T.table }
-    requires begins { IsPrefix pass.old.history book.old.me.0.history }
-    requires counted { pass.old.made ≤ book.old.me.0.made }
-    requires names { (book.old.me.0.in_flight ≡ None)
-        ⊎ (book.old.me.0.in_flight ≡ Some pass.old.number) }
+    requires begins { IsPrefix pass.old.history (view_of book.old.me).history }
+    requires counted { pass.old.made ≤ (view_of book.old.me).made }
+    requires names { ((view_of book.old.me).in_flight ≡ None)
+        ⊎ ((view_of book.old.me).in_flight ≡ Some pass.old.number) }
     ensures book { (book.new.table_id ≡ T.table) × (book.new.me ≡ book.old.me) }
-    ensures history { pass.new.history ≡ book.old.me.0.history }
-    ensures made { pass.new.made ≡ book.old.me.0.made }
-    ensures ended { pass.new.ended ≡ known_or pass.old.ended book.old.me.0.ended }
+    ensures history { pass.new.history ≡ (view_of book.old.me).history }
+    ensures made { pass.new.made ≡ (view_of book.old.me).made }
+    ensures ended { pass.new.ended ≡ known_or pass.old.ended (view_of book.old.me).ended }
     ensures known { KnowsEnd pass.old.ended pass.old.history pass.new.ended pass.new.history }
     ensures number { pass.new.number ≡ pass.old.number }
     ensures legal { M.legal pass.new.history }
     ensures top { pass.new.made ≤ 1048576 }
-    ensures own { OwnBelowOrLast M.caller_of pass.old.number book.old.me.0.history
-        (length pass.old.history) book.old.me.0.in_flight (length book.old.me.0.history) }
+    ensures own { OwnBelowOrLast M.caller_of pass.old.number (view_of book.old.me).history
+        (length pass.old.history) (view_of book.old.me).in_flight (length (view_of book.old.me).history) }
 {
     let note = steps::note(table, book);
     steps::take(table, &mut pass.seat, note);
@@ -140,10 +144,10 @@ fn keep_cause<M: Machine>(
 ) -> EndCause
     requires table { (book.old.table_id ≡ table.now.shared.table_id)
         × (table.now.shared.table_id.words ≡ 1) }
-    requires book { (book.old.me.0.kind ≡ Book) × (book.old.me.0.ended ≡ kept) }
+    requires book { ((view_of book.old.me).kind ≡ Book) × ((view_of book.old.me).ended ≡ kept) }
     ensures first { MatchOption kept (result ≡ cause) (λ first. result ≡ first) }
     ensures seat { book.new.table_id ≡ book.old.table_id }
-    ensures book { book.new.me ≡ (ended_by book.old.me.0 result, book.old.me.1) }
+    ensures book { book.new.me ≡ with_view (ended_by (view_of book.old.me) result) book.old.me }
 {
     match kept {
         Some(first) => first,
@@ -199,6 +203,21 @@ impl<M: Machine, T: TableName> Locked<M, T> {
         ensures waits { result ≡ true → (self.now.ended ≡ None) × ¬ M.is_ready caller op.now self.now.entries }
     {
         self.cause.is_none() && !self.machine.ready(caller, op)
+    }
+
+    /// Whom a call wakes: all that its entry has made ready, if it made one.
+    pub fn woken(&self, made_entry: bool) -> Woken
+        ensures { (list : List M.Item) (e : M.Item) (caller : ℕ) (op : M.Op)
+            → made_entry ≡ true
+            → self.now.entries ≡ list ++ e ∷ []
+            → M.is_ready caller op self.now.entries
+            → M.is_ready caller op list ⊎ Wakes result (M.awaited op) }
+    {
+        if made_entry {
+            self.machine.woken()
+        } else {
+            Woken::nobody()
+        }
     }
 
     /// Makes a new pass, which knows the whole history. The old pass then knows it too.

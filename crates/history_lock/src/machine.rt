@@ -1,6 +1,9 @@
 // What lies under the lock.
-ghost use Rattle.std.specs.Prelude.{◌≡◌, ℕ, ◌^◌, ◌≤◌, ◌↔◌, List, [], ◌∷◌, ◌++◌, length, IfOk, IfErr, IsTrue};
+ghost use Rattle.std.specs.Prelude.{◌≡◌, ℕ, ◌^◌, ◌≤◌, ◌↔◌, ◌⊎◌, List, [], ◌∷◌, ◌++◌, length, IfOk, IfErr, IsTrue};
 ghost use mathlib.Core.List.{IsPrefix};
+ghost use Rattle.history_lock.specs.Waking.{Wakes};
+
+use crate::woken::Woken;
 
 /// Why a lock has ended.
 #[derive(Clone, Copy, PartialEq, Eq, Debug)]
@@ -48,6 +51,9 @@ pub trait Machine {
     /// After which entries an operation of a caller is refused, and how.
     ghost refuses: { ℕ → Self.Op → List Self.Item → Self.Refusal → Type 0 };
 
+    /// The number for which a call with an operation waits.
+    ghost awaited: { Self.Op → ℕ };
+
     /// Which causes fit which entries and which count of passes.
     ghost fits: { EndCause → List Self.Item → ℕ → Type 0 };
 
@@ -67,6 +73,17 @@ pub trait Machine {
     /// Whether an operation of the caller may be applied now.
     fn ready(&self, caller: u32, op: &Self::Op) -> bool
         ensures { IsTrue result ↔ is_ready caller op.now (entries self.now) };
+
+    /// The number for which a call with an operation waits.
+    fn awaits(op: &Self::Op) -> u32
+        ensures { result ≡ awaited op.now };
+
+    /// Whom the last entry wakes: all that it has made ready, and perhaps others.
+    fn woken(&self) -> Woken
+        ensures { (list : List Self.Item) (e : Self.Item) (caller : ℕ) (op : Self.Op)
+            → entries self.now ≡ list ++ e ∷ []
+            → is_ready caller op (entries self.now)
+            → is_ready caller op list ⊎ Wakes result (awaited op) };
 
     /// No entry at all is legal.
     ghost begins: { legal [] };

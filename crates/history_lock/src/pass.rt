@@ -32,19 +32,20 @@ pub struct Pass<M: Machine, T: TableName> {
 impl<M: Machine, T: TableName> Model for Pass<M, T> {
     ghost use Rattle.std.specs.Prelude.{◌≡◌, None, ◌<◌, ◌≤◌};
     ghost use Rattle.history_lock.specs.Known.{Known};
+    ghost use Rattle.history_lock.specs.Views.{view_of};
     ghost use Rattle.history_lock.specs.declared.view.Kind.TheVariants.{Caller};
 
     ghost Value = { Known M.Item };
 
-    ghost view = { λ p. record { number = p.number; history = p.seat.me.0.history; made = p.seat.me.0.made; ended = p.seat.me.0.ended } };
+    ghost view = { λ p. record { number = p.number; history = (view_of p.seat.me).history; made = (view_of p.seat.me).made; ended = (view_of p.seat.me).ended } };
 
     ghost invariant = { λ p. (p.seat.table_id ≡ T.table)
-        × (p.seat.me.0.kind ≡ Caller)
-        × (p.seat.me.0.in_flight ≡ None)
-        × (p.seat.me.0.number ≡ p.number)
-        × (p.number < p.seat.me.0.made)
-        × (p.seat.me.0.made ≤ 1048576)
-        × M.legal p.seat.me.0.history };
+        × ((view_of p.seat.me).kind ≡ Caller)
+        × ((view_of p.seat.me).in_flight ≡ None)
+        × ((view_of p.seat.me).number ≡ p.number)
+        × (p.number < (view_of p.seat.me).made)
+        × ((view_of p.seat.me).made ≤ 1048576)
+        × M.legal (view_of p.seat.me).history };
 }
 
 impl<M: Machine, T: TableName> Pass<M, T> {

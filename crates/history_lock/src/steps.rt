@@ -3,6 +3,7 @@
 ghost use Rattle.std.specs.Prelude.{◌≡◌, ◌+◌, ◌<◌, ◌^◌, ◌⊎◌, [], ◌∷◌, ◌++◌, None, Some, length, IfOk};
 ghost use Rattle.history_lock.specs.declared.view.Kind.TheVariants.{Book, Caller, Note, Receipt};
 ghost use Rattle.history_lock.specs.Rule.{IsTold, opened};
+ghost use Rattle.history_lock.specs.Views.{view_of, slots_of, with_view};
 ghost use Rattle.history_lock.specs.Kinds.{counted_up, newcomer, appended, ended_by, note_of, taken, receipt_of, settled};
 
 use crate::machine::{EndCause, Machine};
@@ -15,9 +16,9 @@ use std::alloc::{AllocError, Global};
 
 /// Makes a table of one word, which is 0, and the book's seat at it.
 pub fn open<M: Machine>(alloc: Global) -> Result<(LockTable<M>, LockSeat<M>), AllocError>
-    ensures { IfOk result (λ t. (t.0.shared.table_id.words ≡ 1)
-        × (t.1.table_id ≡ t.0.shared.table_id)
-        × (t.1.me ≡ (opened, []))) }
+    ensures { IfOk result (λ (table, book). (table.shared.table_id.words ≡ 1)
+        × (book.table_id ≡ table.shared.table_id)
+        × (book.me ≡ (opened, []))) }
 {
     Table::of_words(alloc, &[0], &())
 }
@@ -27,7 +28,7 @@ pub fn read<M: Machine>(table: &LockTable<M>, seat: &mut LockSeat<M>)
     requires { (seat.old.table_id ≡ table.now.shared.table_id)
         × (table.now.shared.table_id.words ≡ 1) }
     ensures same { (seat.new.table_id ≡ seat.old.table_id) × (seat.new.me ≡ seat.old.me) }
-    ensures told { IsTold M.caller_of M.legal seat.old.me.0 }
+    ensures told { IsTold M.caller_of M.legal (view_of seat.old.me) }
 {
     table.shared.load::<Reads<M>>(seat, 0);
 }
@@ -40,18 +41,18 @@ pub fn append<M: Machine, W: Written<M::Item>>(
 )
     requires table { (book.old.table_id ≡ table.now.shared.table_id)
         × (table.now.shared.table_id.words ≡ 1) }
-    requires book { (book.old.me.0.kind ≡ Book)
-        × (book.old.me.0.in_flight ≡ None)
-        × (book.old.me.0.ended ≡ None) }
+    requires book { ((view_of book.old.me).kind ≡ Book)
+        × ((view_of book.old.me).in_flight ≡ None)
+        × ((view_of book.old.me).ended ≡ None) }
     requires written { W.written ≡ M.entries machine.now }
     requires legal { M.legal (M.entries machine.now) }
     requires entry { (e : M.Item)
-        × (M.entries machine.now ≡ book.old.me.0.history ++ e ∷ [])
-        × (M.caller_of e < book.old.me.0.made) }
-    ensures same { (book.new.table_id ≡ book.old.table_id) × (book.new.me.1 ≡ book.old.me.1) }
+        × (M.entries machine.now ≡ (view_of book.old.me).history ++ e ∷ [])
+        × (M.caller_of e < (view_of book.old.me).made) }
+    ensures same { (book.new.table_id ≡ book.old.table_id) × (slots_of book.new.me ≡ slots_of book.old.me) }
     ensures entry { (e : M.Item)
-        × (M.entries machine.now ≡ book.old.me.0.history ++ e ∷ [])
-        × (book.new.me.0 ≡ appended M.caller_of book.old.me.0 e) }
+        × (M.entries machine.now ≡ (view_of book.old.me).history ++ e ∷ [])
+        × (view_of book.new.me ≡ appended M.caller_of (view_of book.old.me) e) }
 {
     let _machine = machine;
     table.shared.fetch_add::<Appends<M, W>>(book, 0, 1);
@@ -61,10 +62,10 @@ pub fn append<M: Machine, W: Written<M::Item>>(
 pub fn end<M: Machine, E: Ending>(table: &LockTable<M>, book: &mut LockSeat<M>, cause: EndCause)
     requires table { (book.old.table_id ≡ table.now.shared.table_id)
         × (table.now.shared.table_id.words ≡ 1) }
-    requires book { (book.old.me.0.kind ≡ Book) × (book.old.me.0.ended ≡ None) }
+    requires book { ((view_of book.old.me).kind ≡ Book) × ((view_of book.old.me).ended ≡ None) }
     requires cause { E.cause ≡ cause }
     ensures { (book.new.table_id ≡ book.old.table_id)
-        × (book.new.me ≡ (ended_by book.old.me.0 cause, book.old.me.1)) }
+        × (book.new.me ≡ with_view (ended_by (view_of book.old.me) cause) book.old.me) }
 {
     let _cause = cause;
     table.shared.load::<Ends<E>>(book, 0);
@@ -74,12 +75,12 @@ pub fn end<M: Machine, E: Ending>(table: &LockTable<M>, book: &mut LockSeat<M>, 
 pub fn admit<M: Machine>(table: &LockTable<M>, book: &mut LockSeat<M>) -> LockSeat<M>
     requires table { (book.old.table_id ≡ table.now.shared.table_id)
         × (table.now.shared.table_id.words ≡ 1) }
-    requires book { (book.old.me.0.kind ≡ Book)
-        × (book.old.me.0.in_flight ≡ None)
-        × (book.old.me.0.made < 1048576) }
+    requires book { ((view_of book.old.me).kind ≡ Book)
+        × ((view_of book.old.me).in_flight ≡ None)
+        × ((view_of book.old.me).made < 1048576) }
     ensures same { (book.new.table_id ≡ book.old.table_id)
-        × (book.new.me ≡ (counted_up book.old.me.0, book.old.me.1)) }
-    ensures new { (result.table_id ≡ book.old.table_id) × (result.me ≡ (newcomer book.old.me.0, [])) }
+        × (book.new.me ≡ with_view (counted_up (view_of book.old.me)) book.old.me) }
+    ensures new { (result.table_id ≡ book.old.table_id) × (result.me ≡ (newcomer (view_of book.old.me), [])) }
 {
     table.shared.split_seat::<Admits>(book)
 }
@@ -89,7 +90,7 @@ pub fn note<M: Machine>(table: &LockTable<M>, seat: &mut LockSeat<M>) -> LockSea
     requires { (seat.old.table_id ≡ table.now.shared.table_id)
         × (table.now.shared.table_id.words ≡ 1) }
     ensures same { (seat.new.table_id ≡ seat.old.table_id) × (seat.new.me ≡ seat.old.me) }
-    ensures new { (result.table_id ≡ seat.old.table_id) × (result.me ≡ (note_of seat.old.me.0, [])) }
+    ensures new { (result.table_id ≡ seat.old.table_id) × (result.me ≡ (note_of (view_of seat.old.me), [])) }
 {
     table.shared.split_seat::<Notes>(seat)
 }
@@ -98,9 +99,9 @@ pub fn note<M: Machine>(table: &LockTable<M>, seat: &mut LockSeat<M>) -> LockSea
 pub fn receipt<M: Machine>(table: &LockTable<M>, seat: &mut LockSeat<M>) -> LockSeat<M>
     requires table { (seat.old.table_id ≡ table.now.shared.table_id)
         × (table.now.shared.table_id.words ≡ 1) }
-    requires caller { seat.old.me.0.kind ≡ Caller }
+    requires caller { (view_of seat.old.me).kind ≡ Caller }
     ensures same { (seat.new.table_id ≡ seat.old.table_id) × (seat.new.me ≡ seat.old.me) }
-    ensures new { (result.table_id ≡ seat.old.table_id) × (result.me ≡ (receipt_of seat.old.me.0, [])) }
+    ensures new { (result.table_id ≡ seat.old.table_id) × (result.me ≡ (receipt_of (view_of seat.old.me), [])) }
 {
     table.shared.split_seat::<Receipts>(seat)
 }
@@ -110,12 +111,12 @@ pub fn take<M: Machine>(table: &LockTable<M>, seat: &mut LockSeat<M>, note: Lock
     requires table { (seat.old.table_id ≡ table.now.shared.table_id)
         × (note.table_id ≡ table.now.shared.table_id)
         × (table.now.shared.table_id.words ≡ 1) }
-    requires caller { seat.old.me.0.kind ≡ Caller }
-    requires note { (note.me.1 ≡ [])
-        × (note.me.0.kind ≡ Note)
-        × ((note.me.0.in_flight ≡ None) ⊎ (note.me.0.in_flight ≡ Some seat.old.me.0.number)) }
+    requires caller { (view_of seat.old.me).kind ≡ Caller }
+    requires note { (slots_of note.me ≡ [])
+        × ((view_of note.me).kind ≡ Note)
+        × (((view_of note.me).in_flight ≡ None) ⊎ ((view_of note.me).in_flight ≡ Some (view_of seat.old.me).number)) }
     ensures { (seat.new.table_id ≡ seat.old.table_id)
-        × (seat.new.me ≡ (taken seat.old.me.0 note.me.0, seat.old.me.1)) }
+        × (seat.new.me ≡ with_view (taken (view_of seat.old.me) (view_of note.me)) seat.old.me) }
 {
     table.shared.join_seat::<Takes>(seat, note);
 }
@@ -125,10 +126,10 @@ pub fn settle<M: Machine>(table: &LockTable<M>, book: &mut LockSeat<M>, receipt:
     requires table { (book.old.table_id ≡ table.now.shared.table_id)
         × (receipt.table_id ≡ table.now.shared.table_id)
         × (table.now.shared.table_id.words ≡ 1) }
-    requires book { book.old.me.0.kind ≡ Book }
-    requires receipt { (receipt.me.1 ≡ []) × (receipt.me.0.kind ≡ Receipt) }
+    requires book { (view_of book.old.me).kind ≡ Book }
+    requires receipt { (slots_of receipt.me ≡ []) × ((view_of receipt.me).kind ≡ Receipt) }
     ensures { (book.new.table_id ≡ book.old.table_id)
-        × (book.new.me ≡ (settled book.old.me.0 receipt.me.0, book.old.me.1)) }
+        × (book.new.me ≡ with_view (settled (view_of book.old.me) (view_of receipt.me)) book.old.me) }
 {
     table.shared.join_seat::<Settles>(book, receipt);
 }

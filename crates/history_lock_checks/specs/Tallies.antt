@@ -42,6 +42,6 @@ Fits (Admissions admitted) list made = (admitted ≡ 1048576) × (1048576 ≤ ma
 
 -- a cause that fits goes on to fit
 pub fits_lasts : (cause : EndCause) (list more : List Entry) (m n : ℕ) → Fits cause list m → length more ≤ 1048576 → IsPrefix list more → m ≤ n → n ≤ 1048576 → Fits cause more n
-fits_lasts (JournalFull entries bytes) list more m n fits legal p le top = omega (arith, fits, sym (ap length p.1), length-append list p.0)
-fits_lasts NoMemory list more m n fits legal p le top = tt
-fits_lasts (Admissions admitted) list more m n fits legal p le top = (fits.0, omega (arith, fits.1))
+fits_lasts (JournalFull entries bytes) list more m n fits legal (rest, whole) le top = omega (arith, fits, sym (ap length whole), length-append list rest)
+fits_lasts NoMemory list more m n fits legal begins le top = tt
+fits_lasts (Admissions admitted) list more m n (all, enough) legal begins le top = (all, omega (arith, enough))

@@ -19,8 +19,8 @@ pub fn end_beside<'a, T: TableName + Send + Sync, R: Threads + Wait + Sync>(
 ) -> (EndCause, EndCause)
     requires first { Fits first one.old.history one.old.made }
     requires second { Fits second two.old.history two.old.made }
-    ensures same { result.0 ≡ result.1 }
-    ensures known { (one.new.ended ≡ Some result.0) × (two.new.ended ≡ Some result.1) }
+    ensures same { let (by_one, by_two) = result in by_one ≡ by_two }
+    ensures known { let (by_one, by_two) = result in (one.new.ended ≡ Some by_one) × (two.new.ended ≡ Some by_two) }
     ensures equal { one.new.history ≡ two.new.history }
 {
     let causes = join_mut(
@@ -63,7 +63,7 @@ pub fn end_and_close<T: TableName, R: Wait>(
     lock: HistoryLock<Tally, T>,
     pass: Pass<Tally, T>,
 ) -> (Tally, EndCause)
-    ensures { IfSome pass.ended (λ known. (result.1 ≡ known) × (result.0 ≡ pass.history)) }
+    ensures { let (tally, cause) = result in IfSome pass.ended (λ known. (cause ≡ known) × (tally ≡ pass.history)) }
 {
     let mut pass = pass;
     let cause = lock.end(rt, &mut pass, EndCause::NoMemory);

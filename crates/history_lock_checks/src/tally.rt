@@ -1,7 +1,7 @@
 // A small machine: what callers added, in order.
 ghost use Rattle.std.specs.Prelude.{◌≡◌, ◌≤◌, [], length};
 
-use history_lock::Machine;
+use history_lock::{Machine, Woken};
 use std::alloc::Global;
 use std::marker::Model;
 
@@ -108,6 +108,8 @@ impl Machine for Tally {
 
     ghost refuses = { λ n op list refusal. Refuses op list refusal };
 
+    ghost awaited = { λ op. 0 };
+
     ghost fits = { Fits };
 
     fn apply(&mut self, caller: u32, op: Op) -> Result<u64, (Refusal, Op)> {
@@ -130,6 +132,14 @@ impl Machine for Tally {
             Op::Add(_) => true,
             Op::AddAfter { amount: _, entries } => *entries <= self.log.len() as u64,
         }
+    }
+
+    fn awaits(_op: &Op) -> u32 {
+        0
+    }
+
+    fn woken(&self) -> Woken {
+        Woken::nobody().with(0)
     }
 
     ghost use Rattle.std.proofs.Common.{arith};

@@ -199,12 +199,12 @@ fn tell_all_one_cause<T: TableName + Send + Sync, R: Threads + Wait + Abort + Sy
         entries: 0,
         bytes: 64,
     };
-    let causes = end_beside(rt, &lock, &mut one, &mut two, EndCause::NoMemory, full);
-    assert_eq!(rt; causes.0, causes.1);
-    assert!(rt; causes.0 == EndCause::NoMemory || causes.0 == full);
-    assert_eq!(rt; call_behind_the_end(rt, &lock, &mut one, 5), causes.0);
+    let (first, second) = end_beside(rt, &lock, &mut one, &mut two, EndCause::NoMemory, full);
+    assert_eq!(rt; first, second);
+    assert!(rt; first == EndCause::NoMemory || first == full);
+    assert_eq!(rt; call_behind_the_end(rt, &lock, &mut one, 5), first);
     let (tally, kept) = end_and_close(rt, lock, two);
-    assert_eq!(rt; kept, causes.0);
+    assert_eq!(rt; kept, first);
     assert_eq!(rt; tally.entries().len(), 1);
     Ok(())
 }

@@ -45,13 +45,13 @@ pub fn add_beside<'a, T: TableName + Send + Sync, R: Threads + Wait + Sync>(
     second: &'a [u32],
 ) -> (usize, usize)
     ensures equal { one.new.history ≡ two.new.history }
-    ensures first { entries_by (λ e. e.caller) one.old.number one.new.history
+    ensures first { let (by_one, by_two) = result in entries_by (λ e. e.caller) one.old.number one.new.history
         ≡ entries_by (λ e. e.caller) one.old.number one.old.history
-        ++ map (entry_of one.old.number) (take result.0 first.now) }
-    ensures second { entries_by (λ e. e.caller) two.old.number two.new.history
+        ++ map (entry_of one.old.number) (take by_one first.now) }
+    ensures second { let (by_one, by_two) = result in entries_by (λ e. e.caller) two.old.number two.new.history
         ≡ entries_by (λ e. e.caller) two.old.number two.old.history
-        ++ map (entry_of two.old.number) (take result.1 second.now) }
-    ensures counts { (result.0 ≤ length first.now) × (result.1 ≤ length second.now) }
+        ++ map (entry_of two.old.number) (take by_two second.now) }
+    ensures counts { let (by_one, by_two) = result in (by_one ≤ length first.now) × (by_two ≤ length second.now) }
     ensures numbers { (one.new.number ≡ one.old.number) × (two.new.number ≡ two.old.number) }
 {
     let counts = join_mut(
@@ -75,20 +75,20 @@ pub fn added_by_two<T: TableName + Send + Sync, R: Threads + Wait + Sync>(
     second: &[u32],
 ) -> Option<(Tally, u32, u32)>
     requires { opened ≡ T.table }
-    ensures apart { IfSome result (λ r. r.1 ≢ r.2) }
-    ensures each { IfSome result (λ r. (entries_by (λ e. e.caller) r.1 r.0 ≡ map (entry_of r.1) first.now)
-        × (entries_by (λ e. e.caller) r.2 r.0 ≡ map (entry_of r.2) second.now)) }
+    ensures apart { IfSome result (λ (tally, one, two). one ≢ two) }
+    ensures each { IfSome result (λ (tally, one, two). (entries_by (λ e. e.caller) one tally ≡ map (entry_of one) first.now)
+        × (entries_by (λ e. e.caller) two tally ≡ map (entry_of two) second.now)) }
 {
     let (lock, mut one) = HistoryLock::<Tally, T>::start(Tally::new(alloc), opened).ok()?;
     let mut two = lock.admit(rt, &mut one).ok()?;
-    let counts = add_beside(rt, &lock, &mut one, &mut two, first, second);
-    if counts.0 < first.len() || counts.1 < second.len() {
+    let (by_one, by_two) = add_beside(rt, &lock, &mut one, &mut two, first, second);
+    if by_one < first.len() || by_two < second.len() {
         return None;
     }
-    let numbers = (one.number(), two.number());
+    let (first_number, second_number) = (one.number(), two.number());
     let tally = lock.close(one);
     if tally.entries().len() != first.len() + second.len() {
         return None;
     }
-    Some((tally, numbers.0, numbers.1))
+    Some((tally, first_number, second_number))
 }

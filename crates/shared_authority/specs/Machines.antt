@@ -42,6 +42,11 @@ IsReady n (Step moment salt event) list = IsStepped event × (moment ≤ 2 ^ 62)
 IsReady n (Load moment loaded) list = moment ≤ 2 ^ 62
 IsReady n (Collect of) list = is_ready (past_of list) n of ≡ true
 
+-- the connection for whose outputs an operation waits; only a Collect waits
+abbrev pub awaited : Op → ℕ
+awaited (Collect of) = of
+awaited _ = 0
+
 -- A connection's operation gives an item and a reply: the item is the next one for what it hands in, and the reply is its place, or what a Collect takes of the items before it.
 abbrev pub Gives : ℕ → Op → List Item → Item → Reply → Type 0
 Gives n (Step moment salt event) list i (At place) = (i ≡ next (past_of list) (event_given n moment salt event)) × (place ≡ length list)

@@ -5,9 +5,10 @@ ghost use Rattle.authority_laws.specs.Batches.{in_order};
 ghost use Rattle.shared_authority.specs.Handing.{op_of_step, refusal_of_step, op_of_load, refusal_of_load, refusal_of_collect};
 
 use crate::operation::{Op, Refusal, Reply};
+use crate::waking::woken_by;
 use authority_core::{Authority, CollectStepRefused, LoadStepRefused, StepRefused};
 use authority_model::Item;
-use history_lock::Machine;
+use history_lock::{Machine, Woken};
 use std::marker::{Brand, PhantomData};
 
 /// The greatest moment that can be handed in, in seconds: 2^62.
@@ -62,7 +63,7 @@ impl<L: LimitsName> Kept<L> {
 impl<L: LimitsName> Machine for Kept<L> {
     ghost use Rattle.authority_laws.specs.Batches.{in_order};
     ghost use Rattle.shared_authority.specs.Journals.{IsJournal, Fits, caller_of};
-    ghost use Rattle.shared_authority.specs.Machines.{IsReady, Gives, Refuses};
+    ghost use Rattle.shared_authority.specs.Machines.{IsReady, Gives, Refuses, awaited};
     ghost use Rattle.shared_authority.specs.Lasting.{empty_journal, journals_short, fits_lasts};
 
     type Op = Op;
@@ -84,6 +85,8 @@ impl<L: LimitsName> Machine for Kept<L> {
     ghost gives = { Gives };
 
     ghost refuses = { λ n op list refusal. Refuses L.limits list refusal };
+
+    ghost awaited = { awaited };
 
     ghost fits = { Fits L.limits };
 
@@ -117,6 +120,20 @@ impl<L: LimitsName> Machine for Kept<L> {
             } => event.is_stepped() && *moment <= GREATEST_MOMENT,
             Op::Load { moment, loaded: _ } => *moment <= GREATEST_MOMENT,
             Op::Collect { of } => self.authority.ready(caller, *of),
+        }
+    }
+
+    fn awaits(op: &Op) -> u32 {
+        match op {
+            Op::Collect { of } => *of,
+            Op::Step { .. } | Op::Load { .. } => 0,
+        }
+    }
+
+    fn woken(&self) -> Woken {
+        match self.authority.history().entries.as_slice().last() {
+            None => Woken::nobody(),
+            Some(entry) => woken_by(entry),
         }
     }
 

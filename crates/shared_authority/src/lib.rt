@@ -8,6 +8,7 @@ mod kept;
 mod operation;
 mod refused;
 mod shared;
+mod waking;
 
 pub use collecting::{CollectRefused, Collected};
 pub use kept::{Kept, LimitsName};

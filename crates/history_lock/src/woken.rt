@@ -1,0 +1,35 @@
+// Whom an entry wakes.
+ghost use Rattle.std.specs.Prelude.{ℕ};
+ghost use Rattle.history_lock.specs.Waking.{Wakes};
+
+/// At how many places calls wait.
+pub(crate) const PLACES: u32 = 64;
+
+/// Whom an entry wakes. Calls wait at 64 places: one that waits for a number, at the place that is
+/// the rest of this number by 64. All that wait at a place are woken together.
+#[derive(Clone, Copy)]
+pub struct Woken {
+    places: u64,
+}
+
+impl Woken {
+    /// Nobody.
+    pub fn nobody() -> Woken {
+        Woken { places: 0 }
+    }
+
+    /// These, and those that wait for a number.
+    pub fn with(self, number: u32) -> Woken
+        ensures wakes { Wakes result number }
+        ensures keeps { (other : ℕ) → Wakes self other → Wakes result other }
+    {
+        Woken {
+            places: self.places | 1 << (number % PLACES),
+        }
+    }
+
+    /// Whether those who wait at a place are among them.
+    pub(crate) fn has(self, place: u32) -> bool {
+        self.places >> (place % PLACES) & 1 == 1
+    }
+}
