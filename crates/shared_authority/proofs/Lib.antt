@@ -2,4 +2,4 @@ pub mod Growing
 pub mod Refusing
 pub mod Entering
 pub mod Causes
-pub mod Waking
+pub mod Readying

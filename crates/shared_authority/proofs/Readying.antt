@@ -1,6 +1,6 @@
 -- Which Collect becomes ready by an item, and that the last item of a journal is of its last entry.
-use Rattle.std.proofs.Common.{◌≡◌, ℕ, ◌+◌, ◌-◌, ◌<◌, Bool, true, false, ◌&&◌, ◌||◌, ◌==◌, if◌then◌else◌, List, [], ◌∷◌, ◌++◌, Option, Some, None, refl, ap, sym, ◌∙◌, ◌⊎◌, inl, inr, ⊎_elim, subst, absurd, length, map, get_or, arith}
-use Rattle.std.specs.Prelude.{⊥, nat_lt, reverse, slice_get, is_some}
+use Rattle.std.proofs.Common.{◌≡◌, ℕ, zero, suc, ◌+◌, ◌-◌, ◌<◌, Bool, true, false, ◌&&◌, ◌==◌, if◌then◌else◌, List, [], ◌∷◌, ◌++◌, Some, None, refl, ap, sym, ◌∙◌, ◌⊎◌, inl, inr, ⊎_elim, subst, length, map, get_or, arith}
+use Rattle.std.specs.Prelude.{nat_lt, slice_get, is_some}
 use Rattle.std.proofs.lemmas.Bool.{or_cases, or_left, or_right}
 use Rattle.std.proofs.lemmas.Bool.Decides.{nat_tests}
 use Rattle.std.proofs.lemmas.List.{reverse-append, length-append, map-append}
@@ -10,6 +10,7 @@ use Rattle.authority_model.specs.declared.journal.Entry.{Entry}
 use Rattle.authority_model.specs.declared.journal.History.{History}
 use Rattle.authority_model.specs.declared.journal.Item.{Item}
 use Rattle.authority_model.specs.declared.load.Loaded.{Loaded}
+use Rattle.authority_model.specs.declared.message.Output.{Output}
 use Rattle.authority_model.specs.Items.{count_to, sent, is_load, paired, pair_up}
 use Rattle.authority_model.specs.Peers.{departed, departs, is_by, is_depart, uid_of}
 use Rattle.authority_model.specs.Sent.{is_ready, collected, is_collect_of}
@@ -48,6 +49,23 @@ ready_by past i n c ready =
   where
     departs_by : (is_by c i ≡ true) × (is_depart i.entry.event ≡ true) → (is_depart i.entry.event ≡ true) × (i.entry.caller ≡ c)
     departs_by (by, depart) = (depart, grind (arith, nat_tests))
+
+-- the first of some outputs goes to a connection, or another does
+first_or_rest : (b : Bool) (n : ℕ) → 0 < (if b then 1 else 0) + n → (b ≡ true) ⊎ (0 < n)
+first_or_rest true n more = inl refl
+first_or_rest false n more = inr (let plain : 0 < 0 + n = more in omega (arith, plain))
+
+first_counts : (b : Bool) (n : ℕ) → b ≡ true → 0 < (if b then 1 else 0) + n
+first_counts b n e = subst (λ (x : Bool). 0 < (if x then 1 else 0) + n) (sym e) (let one : 0 < 1 + n = omega arith in one)
+
+-- where one more output stands behind others, one of those goes to a connection, or this one does
+pub receives : (c : ℕ) (outputs : List Output) (o : Output) → 0 < count_to c (outputs ++ o ∷ []) → (0 < count_to c outputs) ⊎ (o.to ≡ c)
+receives c [] o more = ⊎_elim (λ (same : (o.to == c) ≡ true). inr (grind (arith, nat_tests))) (λ (none : 0 < 0). inl (omega (arith, none))) (first_or_rest (o.to == c) 0 more)
+receives c (x ∷ xs) o more =
+    ⊎_elim
+    (λ (same : (x.to == c) ≡ true). inl (first_counts (x.to == c) (count_to c xs) same))
+    (λ (rest : 0 < count_to c (xs ++ o ∷ [])). ⊎_elim (λ (before : 0 < count_to c xs). inl (omega (arith, before))) (λ (is : o.to ≡ c). inr is) (receives c xs o rest))
+    (first_or_rest (x.to == c) (count_to c (xs ++ o ∷ [])) more)
 
 -- the entries of items are those that were paired
 entries_of_paired : (es : List Entry) (ls : List Loaded) → map (λ (i : Item). i.entry) (paired es ls) ≡ es
