@@ -13,7 +13,6 @@ mod board;
 #[cfg(test)]
 mod clients;
 #[cfg(test)]
-mod copies;
 #[cfg(test)]
 mod files;
 #[cfg(test)]

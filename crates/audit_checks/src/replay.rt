@@ -1,5 +1,4 @@
 // A closed journal, handed in again on one thread.
-use crate::copies::copy_of;
 use crate::flaws::Flaw;
 use crate::messages::are_same;
 use authority_core::Authority;
@@ -44,7 +43,7 @@ fn hand_in_step(again: &mut Authority, entry: &Entry) -> Result<bool, Flaw> {
     if entry.moment > GREATEST_MOMENT {
         return Ok(false);
     }
-    let event = copy_of(&entry.event)?;
+    let event = entry.event.try_copy()?;
     if !event.is_stepped() {
         return Ok(false);
     }

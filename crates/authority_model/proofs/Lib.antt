@@ -18,3 +18,4 @@ pub mod FirstPlace
 pub mod Fronts
 pub mod Endings
 pub mod Digits
+pub mod BusNames

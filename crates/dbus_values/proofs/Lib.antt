@@ -1,6 +1,7 @@
 pub mod Loops
 pub mod Texts
 pub mod Stack
+pub mod Stretches
 pub mod Slots
 pub mod Steps
 pub mod Short

@@ -1,5 +1,5 @@
 -- The containers that are open at a place.
-use Rattle.std.specs.Prelude.{ℕ, zero, suc, ◌+◌, ◌<◌, ◌≤◌, Bool, true, false, List, [], ◌∷◌, length, map, reverse, take, slice_index_or, Option, Some, None}
+use Rattle.std.specs.Prelude.{◌≡◌, ℕ, zero, suc, ◌+◌, ◌<◌, ◌≤◌, Bool, true, false, List, [], ◌∷◌, length, map, reverse, take, slice_index_or, Option, Some, None}
 use Rattle.dbus_values.specs.declared.frames.Frame.{Frame}
 use Rattle.dbus_values.specs.declared.frames.Frame.TheVariants as frame
 
@@ -62,3 +62,7 @@ with_members (suc n) fs = with_members n (Members ∷ fs)
 -- the containers in so many places, the innermost first
 abbrev pub seen : ℕ → List Frame → List Open
 seen n frames = map opened (reverse (take n frames))
+
+-- these places hold structures alone
+abbrev pub AllMembers : ℕ → ℕ → List Frame → Type 0
+AllMembers from to frames = (i : ℕ) (d : Frame) → from ≤ i → i < to → opened (slice_index_or frames i d) ≡ Members

@@ -1,12 +1,13 @@
 // The containers that are open, the innermost first.
 ghost use Rattle.std.specs.Prelude.{◌≡◌, ◌<◌, ◌≤◌, ◌+◌, ◌-◌, ◌∷◌, length, drop, [], Some, IfSome, MatchOption, false};
 ghost use Rattle.std.specs.Option.{option_map};
-ghost use Rattle.dbus_values.specs.Opened.{opened, innermost, outer, is_variant, is_structure, is_array, with_members, seen, IsWithin, AllWithin};
+ghost use Rattle.dbus_values.specs.Opened.{opened, innermost, outer, is_variant, is_structure, is_array, with_members, seen, IsWithin, AllWithin, AllMembers};
 ghost use Rattle.dbus_values.specs.Opened as open_part;
 ghost use Rattle.dbus_values.specs.Signatures.{after_item};
 
 use crate::cursor::Cursor;
 use crate::known_items::KnownItems;
+use crate::stretch::Stretch;
 use std::marker::Model;
 
 /// A container that is open, with what comes behind it.
@@ -75,6 +76,7 @@ impl<'a> Frame<'a> {
 fn put_members<'a>(frames: &mut [Frame<'a>], from: usize, n: usize)
     requires room { from + n ≤ length frames.old }
     ensures put { seen (from + n) frames.new ≡ with_members n (seen from frames.old) }
+    ensures members { AllMembers from (from + n) frames.new }
     ensures within { AllWithin frames.old → AllWithin frames.new }
 {
     for i in 0..n {
@@ -100,10 +102,34 @@ fn members_on<'a>(frames: &[Frame<'a>], len: usize, most: usize) -> usize
     most.min(len)
 }
 
-/// At most 64 open containers, seen as a list, the innermost first.
+/// How many of the innermost containers are structures, up to so many, where the places of this
+/// stretch are known to hold structures.
+#[inline(always)]
+fn innermost_members<'a>(
+    frames: &[Frame<'a>],
+    structures: Stretch,
+    len: usize,
+    most: usize,
+) -> usize
+    requires all { len ≤ length frames.now }
+    requires structures { AllMembers structures.from structures.to frames.now }
+    ensures few { result ≤ most }
+    ensures within { result ≤ len }
+    ensures exact { seen len frames.now ≡ with_members result (seen (len - result) frames.now) }
+{
+    let most = most.min(len);
+    if structures.holds(len - most, len) {
+        return most;
+    }
+    members_on(frames, len, most)
+}
+
+/// At most 64 open containers, seen as a list, the innermost first. It knows a stretch of places
+/// that hold structures alone, so that a run of them is opened and closed without a look at each.
 #[derive(Drop)]
 pub struct Frames<'a> {
     frames: [Frame<'a>; 64],
+    structures: Stretch,
     len: usize,
     letters: usize,
     known: KnownItems<'a>,
@@ -111,13 +137,15 @@ pub struct Frames<'a> {
 
 impl<'a> Model for Frames<'a> {
     ghost use Rattle.std.specs.Prelude.{List, map, reverse, take, length, ◌≤◌, ◌≡◌, ◌<◌, ℕ, slice_index_or};
-    ghost use Rattle.dbus_values.specs.Opened.{Open, opened, AllWithin};
+    ghost use Rattle.dbus_values.specs.Opened.{Open, opened, AllWithin, AllMembers};
 
     ghost Value = { List Open };
 
     ghost view = { λ s. map opened (reverse (take s.len s.frames)) };
 
-    ghost invariant = { λ s. (s.len ≤ 64) × (length s.frames ≡ 64) × AllWithin s.frames };
+    ghost invariant = { λ s. (s.len ≤ 64) × (length s.frames ≡ 64)
+        × AllWithin s.frames
+        × AllMembers s.structures.from s.structures.to s.frames };
 }
 
 impl<'a> Frames<'a> {
@@ -128,6 +156,7 @@ impl<'a> Frames<'a> {
     {
         Frames {
             frames: [Frame::Members; 64],
+            structures: Stretch { from: 0, to: 64 },
             len: 0,
             letters: 0,
             known: KnownItems::new(),
@@ -167,6 +196,7 @@ impl<'a> Frames<'a> {
         ensures opened { self.new ≡ opened frame.entry ∷ self.old }
     {
         self.letters = self.letters.wrapping_add(frame.letters());
+        self.structures = self.structures.put(self.len, frame.is_structure());
         self.frames[self.len] = frame;
         self.len += 1;
     }
@@ -250,8 +280,12 @@ impl<'a> Frames<'a> {
         ensures opened { self.new ≡ with_members n self.old }
     {
         let from = self.len;
-        put_members(&mut self.frames, from, n);
-        self.len = from + n;
+        let to = from + n;
+        if !self.structures.holds(from, to) {
+            put_members(&mut self.frames, from, n);
+            self.structures = Stretch { from, to };
+        }
+        self.len = to;
     }
 
     /// How many of the innermost are structures, up to so many. Where a variant stands around
@@ -263,7 +297,7 @@ impl<'a> Frames<'a> {
         ensures outer { self.now ≡ with_members result (drop result self.now) }
         ensures plain { 1 ≤ result → is_variant (innermost (drop result self.now)) ≡ false }
     {
-        let n = members_on(&self.frames, self.len, most);
+        let n = innermost_members(&self.frames, self.structures, self.len, most);
         if n == self.len {
             return n;
         }

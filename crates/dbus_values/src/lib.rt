@@ -25,6 +25,7 @@ mod runs;
 mod signature;
 mod size;
 mod start;
+mod stretch;
 mod strings;
 mod value;
 mod walk;

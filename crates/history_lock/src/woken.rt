@@ -3,13 +3,13 @@ ghost use Rattle.std.specs.Prelude.{ℕ};
 ghost use Rattle.history_lock.specs.Waking.{Wakes};
 
 /// At how many places calls wait.
-pub(crate) const PLACES: u32 = 64;
+pub(crate) const PLACES: u32 = 128;
 
-/// Whom an entry wakes. Calls wait at 64 places: one that waits for a number, at the place that is
-/// the rest of this number by 64. All that wait at a place are woken together.
+/// Whom an entry wakes. Calls wait at 128 places: one that waits for a number, at the place that is
+/// the rest of this number by 128. All that wait at a place are woken together.
 #[derive(Clone, Copy)]
 pub struct Woken {
-    places: u64,
+    places: u128,
 }
 
 impl Woken {

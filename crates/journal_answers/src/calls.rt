@@ -12,10 +12,11 @@ ghost use Rattle.journal_answers.specs.Told.{reply_of};
 use crate::checking::{Check, answer_check};
 use crate::context::Context;
 use crate::granting::revoke_one;
-use crate::names::bus_name;
 use crate::replies::{ReplyTo, cancel_begin, reply_to};
 use crate::subject_calls::{SubjectCall, answer_subject_call};
-use authority_model::{Answer, Call, ErrorCause, Message, Output, OutputList, Pending, offers};
+use authority_model::{
+    Answer, Call, ErrorCause, Message, Output, OutputList, Pending, bus_name, offers,
+};
 use pk_types::{Identity, NoMemory, Text};
 
 /// Whether a caller may announce a process.

@@ -12,7 +12,6 @@ mod events;
 mod finding;
 mod granting;
 mod loading;
-mod names;
 mod registering;
 mod replies;
 mod returning;

@@ -1,4 +1,3 @@
 pub mod Orders
-pub mod BusNames
 pub mod Reading
 pub mod WordFaults

@@ -1,12 +1,13 @@
 // The subjects and identities of lines.
 ghost use Rattle.std.specs.Prelude.{◌≡◌, ◌^◌, ◌<◌, [], ◌∷◌, map, IfOk};
 ghost use Rattle.std.specs.Option.{option_map};
-ghost use Rattle.authority_model.specs.Words.{after_front, bus_name};
+ghost use Rattle.authority_model.specs.Words.{after_front};
 ghost use Rattle.scenario_text.specs.Faults.{Gives};
 ghost use Rattle.scenario_text.specs.Subjects.{subject_of_parts, subject_in, identity_of_parts, identity_in};
 
 use crate::fault::LineKind;
 use crate::words::{caller_word, number_32, number_64, text_word};
+use authority_model::bus_name;
 use byte_pieces::pieces;
 use pk_types::{Identity, NoMemory, Subject, Text};
 use std::alloc::Global;
@@ -28,14 +29,6 @@ pub fn behind<'a>(word: &'a [u8], front: &[u8]) -> Option<&'a [u8]>
     Some(rest)
 }
 
-/// The bus name of a connection.
-fn name_of(alloc: Global, caller: u32) -> Result<Text, NoMemory>
-    ensures name { IfOk result (λ name. name ≡ bus_name caller) }
-{
-    let name = format!(in alloc; ":1.{caller}")?;
-    Text::of_known(alloc, name.as_bytes())
-}
-
 fn bus(alloc: Global, kind: &[u8], caller: &[u8]) -> Result<Subject, LineKind>
     ensures value { Gives result (subject_of_parts (kind.now ∷ caller.now ∷ [])) }
 {
@@ -43,7 +36,7 @@ fn bus(alloc: Global, kind: &[u8], caller: &[u8]) -> Result<Subject, LineKind>
         return Err(LineKind::Value);
     }
     let caller = caller_word(caller)?;
-    let name = name_of(alloc, caller)?;
+    let name = bus_name(alloc, caller)?;
     Ok(Subject::BusName { name })
 }
 
