@@ -8,14 +8,8 @@
 
 mod authority;
 mod collecting;
-#[cfg(test)]
-mod collecting_tests;
 mod copies;
 mod entering;
-#[cfg(test)]
-mod full_tests;
-#[cfg(test)]
-mod tests;
 
 pub use authority::{Authority, LoadStepRefused, StepRefused};
 pub use authority_model::Limits;

@@ -15,8 +15,6 @@ mod implying;
 mod order;
 mod owners;
 mod returns;
-#[cfg(test)]
-mod tests;
 mod values;
 mod verdicts;
 mod words;

@@ -16,8 +16,6 @@ mod registering;
 mod replies;
 mod returning;
 mod subject_calls;
-#[cfg(test)]
-mod tests;
 mod trusting;
 
 pub use events::{load_outputs, outputs};

@@ -20,8 +20,6 @@ mod sent;
 mod state;
 mod subjects;
 mod tables;
-#[cfg(test)]
-mod tests;
 
 pub use challenges::Challenges;
 pub use collections::{Collection, Collections};

@@ -8,8 +8,6 @@
 
 mod places;
 mod rules;
-#[cfg(test)]
-mod tests;
 mod values;
 
 pub use values::implicit;

@@ -5,8 +5,6 @@
 
 mod keys;
 mod subjects;
-#[cfg(test)]
-mod tests;
 
 pub use keys::facts_of_key;
 pub use subjects::facts;

@@ -2,11 +2,11 @@
 ghost use Rattle.std.specs.Prelude.{IfOk};
 ghost use Rattle.authority_model.specs.Small.{IsShort};
 
-use crate::{DecisionRef, allowed, decision, no, owns, return_verdict, verdict};
 use authority_model::{
     Action, ActionList, Cookie, Decision, Facts, GrantRow, Key, KeyRef, Loaded, Pending, Process,
     Reason, RuleSource, Session, World,
 };
+use check_decision::{DecisionRef, allowed, decision, no, owns, return_verdict, verdict};
 use pk_types::{ActionId, Category, Identity, Implicit, List, Pair, Text};
 use std::alloc::Global;
 use std::test::Fail;

@@ -2,7 +2,7 @@
 ghost use Rattle.std.specs.Prelude.{IfOk};
 ghost use Rattle.authority_model.specs.Given.{IsStepped};
 
-use crate::{Authority, Limits};
+use authority_core::{Authority, Limits};
 use authority_model::{
     Action, ActionList, Answer, Call, Decision, Entry, ErrorCause, Event, Loaded, Message, Process,
     ProcessList, RuleSource,

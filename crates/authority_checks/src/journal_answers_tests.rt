@@ -1,7 +1,7 @@
 // Each public call once, with ample memory. The expected replies are those of the reference manual
 // of polkit and of this project's own interface.
-use crate::{load_outputs, outputs};
 use authority_model::{Answer, Call, Entry, ErrorCause, Event, Loaded, Message, OutputList};
+use journal_answers::{load_outputs, outputs};
 use journal_state::State;
 use pk_types::{List, NoMemory, Subject, Text};
 use std::alloc::Global;

@@ -3,10 +3,10 @@
 ghost use Rattle.std.specs.Prelude.{◌≤◌, ◌^◌, IfOk};
 ghost use Rattle.authority_model.specs.Small.{IsShort};
 
-use crate::{OutputPlace, State};
 use authority_model::{
     Action, Call, Cookie, Entry, Event, Loaded, Message, Output, OutputList, Process, ProcessId,
 };
+use journal_state::{OutputPlace, State};
 use pk_types::{ActionId, Identity, Implicit, List, Subject, Text};
 use std::alloc::Global;
 use std::test::Fail;

@@ -1,5 +1,5 @@
 // Journals that are full.
-use crate::{Authority, Limits, LoadStepRefused, StepRefused};
+use authority_core::{Authority, Limits, LoadStepRefused, StepRefused};
 use authority_model::{Event, Loaded, MAX_BYTES, MAX_ENTRIES};
 use std::test::Fail;
 

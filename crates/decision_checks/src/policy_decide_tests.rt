@@ -2,11 +2,11 @@
 ghost use Rattle.std.specs.Prelude.{IfOk};
 ghost use Rattle.authority_model.specs.Small.{IsShort};
 
-use crate::implicit;
 use authority_model::{
     Action, Group, Loaded, Policy, RuleEntry, RuleList, RuleSource, User, World,
 };
 use pk_types::{ActionId, Category, Implicit, List, Text, TextList};
+use policy_decide::implicit;
 use std::alloc::Global;
 use std::test::Fail;
 

@@ -1,7 +1,7 @@
 // What callers collect of the outputs to a connection.
 ghost use Rattle.authority_model.specs.Given.{IsStepped};
 
-use crate::{Authority, CollectStepRefused, Limits};
+use authority_core::{Authority, CollectStepRefused, Limits};
 use authority_model::{
     Answer, Call, ErrorCause, Event, Loaded, MAX_BYTES, MAX_ENTRIES, Message, Output, OutputList,
 };

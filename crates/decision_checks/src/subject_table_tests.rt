@@ -1,9 +1,9 @@
 // Each public call once, with ample memory, in a world of two sessions and three processes.
-use crate::{facts, facts_of_key};
 use authority_model::{Facts, Key, Loaded, Process, Session, World};
 use pk_types::{Category, Subject, Text};
 use std::alloc::Global;
 use std::test::Fail;
+use subject_table::{facts, facts_of_key};
 
 fn text(alloc: Global, bytes: &str) -> Result<Text, Fail> {
     Ok(Text::try_from_bytes(alloc, bytes.as_bytes())?)
