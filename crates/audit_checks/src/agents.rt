@@ -1,17 +1,13 @@
 // The agent, with its helper.
 use crate::board::Board;
 use crate::clients::wait;
-use crate::files::tree;
 use crate::flaws::Flaw;
-use crate::keeping::KeepingStation;
-use pk_outside::{ByteSink, Station};
+use pk_outside::Station;
 use pk_types::Text;
 use script_agent::{AgentStatus, script_agent};
 use std::alloc::Global;
 use std::time::Clock;
-
-/// The room of the agent's output.
-const ROOM: usize = 4096;
+use test_parts::{HeardStation, output, tree};
 
 /// What came of an agent.
 #[derive(Drop)]
@@ -22,7 +18,7 @@ pub struct Attended {
 }
 
 /// Runs the agent over a station, once there are doors.
-pub fn attend<R: Clock, N: Station>(
+pub fn attend<R: Clock + Sync, N: Station>(
     rt: &R,
     alloc: Global,
     words: &[Text],
@@ -30,14 +26,16 @@ pub fn attend<R: Clock, N: Station>(
     board: &Board,
 ) -> Result<Attended, Flaw> {
     wait(rt, &board.doors, 1)?;
-    let mut station = KeepingStation {
+    let mut station = HeardStation {
+        rt,
         alloc,
         inner,
+        waits: &[],
         given: &board.agent,
         kept: Vec::new(alloc),
     };
-    let mut tree = tree(alloc)?;
-    let mut output = ByteSink::new(alloc, ROOM, ROOM, Vec::new(alloc))?;
+    let mut tree = tree(alloc, Vec::new(alloc))?;
+    let mut output = output(alloc)?;
     let status = script_agent(alloc, words, &mut tree, &mut station, &mut output);
     Ok(Attended {
         status,

@@ -1,6 +1,5 @@
 // The clients that send their calls all at once.
-use crate::board::{Board, Count};
-use crate::files::path_of;
+use crate::board::Board;
 use crate::flaws::Flaw;
 use crate::script::{CALLS, CLIENTS, SIGNALS, calls_of, shake_of};
 use dbus_values::{Next, next_message};
@@ -9,7 +8,9 @@ use std::alloc::Global;
 use std::io::{Read, Write};
 use std::net::{Net, Shutdown};
 use std::os::unix::net::UnixStream;
+use std::str;
 use std::time::Clock;
+use test_parts::Count;
 
 /// The server's line of the handshake has so many bytes.
 pub const GREETING: usize = 37;
@@ -143,7 +144,9 @@ pub fn run_client<R: Net + Clock>(
 ) -> Result<Vec<u8>, Flaw> {
     wait(rt, &board.doors, 1)?;
     wait(rt, &board.agent, REGISTERED)?;
-    let stream = UnixStream::connect(rt, path_of(path)).map_err(|_| Flaw::Socket)?;
+    let stream = UnixStream::connect(rt, str::from_utf8(path.bytes()).unwrap_or("")).map_err(
+        |_| Flaw::Socket,
+    )?;
     let mut talk = Talk {
         alloc,
         stream,

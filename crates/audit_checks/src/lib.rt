@@ -13,16 +13,9 @@ mod board;
 #[cfg(test)]
 mod clients;
 #[cfg(test)]
-#[cfg(test)]
-mod files;
-#[cfg(test)]
 mod flaws;
 #[cfg(test)]
-mod keeping;
-#[cfg(test)]
 mod messages;
-#[cfg(test)]
-mod passes;
 #[cfg(test)]
 mod replay;
 #[cfg(test)]

@@ -1,10 +1,11 @@
 // What each client sends.
 use crate::wire::{
-    ASK, ASK_KEEP, CANCEL, CHECK_CLOSED, CHECK_KEPT, CHECK_UNKNOWN, CHECK_YES, ENUMERATE, GRANTS,
-    MISNAMED, REGISTER, RELOAD, RESPOND, SHAKE_ALICE, SHAKE_ROOT,
+    ASK_KEEP, CANCEL, CHECK_CLOSED, CHECK_KEPT, CHECK_UNKNOWN, ENUMERATE, GRANTS, MISNAMED,
+    REGISTER, RESPOND,
 };
 use pk_types::NoMemory;
 use std::alloc::Global;
+use test_parts::{ASK, CHECK_YES, RELOAD, SHAKE_ALICE, SHAKE_ROOT};
 
 /// So many clients are there: first those of user 1000, and then those of root.
 pub const CLIENTS: usize = 6;

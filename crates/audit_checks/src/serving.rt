@@ -3,9 +3,7 @@ ghost use Rattle.std.specs.Prelude.{◌≡◌};
 ghost use Rattle.authority_model.specs.Entering.{AreAllowed};
 
 use crate::board::Board;
-use crate::files::{ROOT, text, tree};
 use crate::flaws::Flaw;
-use crate::passes::begin;
 use crate::slots::{Paths, open_slots};
 use authority_core::Authority;
 use authority_model::Limits;
@@ -19,6 +17,7 @@ use std::alloc::Global;
 use std::marker::Brand;
 use std::sync::Wait;
 use std::thread::Threads;
+use test_parts::{ROOT, begin, text, tree};
 
 /// What a service leaves.
 #[derive(Drop)]
@@ -76,12 +75,12 @@ fn serve_tabled<
     requires table { opened ≡ T.table }
 {
     let root = text(alloc, ROOT)?;
-    let mut tree = tree(alloc)?;
+    let mut tree = tree(alloc, Vec::new(alloc))?;
     let Ok(first) = load(alloc, &mut tree, &root) else {
         return Err(Flaw::NoLoad);
     };
     let (shared, mut zero) = Shared::<L, T>::start(alloc, limits, opened)?;
-    let mut control = begin(rt, &shared, &mut zero, first)?;
+    let mut control = begin(rt, &shared, &mut zero, first).ok_or(Flaw::NoPass)?;
     let slots = open_slots(rt, alloc, &shared, &mut control, station, paths)?;
     board.doors.add(1);
     let ended = serve_beside_loader(

@@ -3,7 +3,6 @@ ghost use Rattle.std.specs.Prelude.{All, IfOk};
 ghost use Rattle.service_slots.specs.Stops.{NoneEnded};
 
 use crate::flaws::Flaw;
-use crate::passes::new_pass;
 use crate::script::{CLIENTS, OF_ALICE};
 use history_lock::{Pass, TableName};
 use pk_outside::Station;
@@ -12,6 +11,7 @@ use service_slots::{Slot, open_slot};
 use shared_authority::{Kept, LimitsName, Shared};
 use std::alloc::Global;
 use std::sync::Wait;
+use test_parts::new_pass;
 
 /// The paths of the doors.
 #[derive(Drop)]
@@ -108,7 +108,7 @@ pub fn open_slots<L: LimitsName, T: TableName, N: Station, R: Wait>(
 {
     let mut slots = Vec::new(alloc);
     for slot in 0..SLOTS {
-        let pass = new_pass(rt, shared, control)?;
+        let pass = new_pass(rt, shared, control).ok_or(Flaw::NoPass)?;
         push_slot(alloc, station, paths.place(slot), pass, &mut slots)?;
     }
     Ok(slots)

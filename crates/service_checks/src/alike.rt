@@ -1,7 +1,7 @@
 // What a connection is sent is what the same messages are answered on one thread.
-use crate::files::{joined, output, texts, tree};
 use crate::memory::{Fault, LinkRow, ROOM, Scene, Served, play};
-use crate::wire::{OK, SHAKE_ALICE, SHAKE_ROOT, TALK_OF_ALICE, TALK_OF_ROOT};
+use crate::wire::{OK, TALK_OF_ALICE, TALK_OF_ROOT};
+use crate::written::joined;
 use pk_outside::{ByteSource, ListStation};
 use pk_types::NoMemory;
 use polkit_daemon::polkitd;
@@ -9,6 +9,7 @@ use std::alloc::Global;
 use std::sync::Wait;
 use std::test::Fail;
 use std::thread::Threads;
+use test_parts::{SHAKE_ALICE, SHAKE_ROOT, output, texts, tree};
 
 /// Alice's connection and that of root beside each other.
 const SCENE: Scene = Scene {

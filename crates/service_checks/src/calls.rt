@@ -1,12 +1,12 @@
 // Services of which one call after another fails.
 use crate::files::is_told;
 use crate::memory::{Fault, LinkRow, ROOM, Scene, play};
-use crate::wire::{CHECK_YES, RELOAD, SHAKE_ALICE, SHAKE_ROOT};
 use pk_types::NoMemory;
 use std::alloc::Global;
 use std::sync::Wait;
 use std::test::Fail;
 use std::thread::Threads;
+use test_parts::{CHECK_YES, RELOAD, SHAKE_ALICE, SHAKE_ROOT};
 
 /// A reload by root.
 const RELOADS: Scene = Scene {

@@ -1,7 +1,7 @@
 // Three connections of which each waits for what another one is sent.
 use crate::cues::{Cue, CueStation, Part, SentBytes, Who};
-use crate::files::{is_made, is_told, output, texts, tree};
-use crate::wire::{BEGIN, CHECK, DONE, OK, REGISTER, RESPOND, RETURN, YES};
+use crate::wire::{BEGIN, DONE, OK, REGISTER, RESPOND, RETURN, YES};
+use crate::written::{is_made, is_told};
 use pk_types::{NoMemory, Text};
 use polkit_daemon::{Status, serve};
 use serve_words::read_plan;
@@ -10,6 +10,7 @@ use std::sync::Wait;
 use std::test::Fail;
 use std::thread::Threads;
 use std::time::Clock;
+use test_parts::{ASK, output, texts, tree};
 
 /// So many bytes have the answer to the handshake and an empty return.
 const ANSWERED: u64 = 61;
@@ -44,7 +45,7 @@ const PARTS: &[Part] = &[
             Cue {
                 of: Who::Agent,
                 sent: ANSWERED,
-                gives: CHECK,
+                gives: ASK,
             },
             Cue {
                 of: Who::Asker,

@@ -1,14 +1,13 @@
 // A station whose links give what they have to give once other links were sent so much.
 ghost use Rattle.std.specs.Prelude.{◌≡◌, ◌≤◌, ◌^◌};
 
-use crate::board::Count;
-use crate::wire::{SHAKE_ALICE, SHAKE_ROOT};
 use pk_outside::{
     Accepted, Clock, Door, Ends, Failed, Link, Salt, Sink, Source, Station, StationRefused,
 };
 use pk_types::Text;
 use std::alloc::Global;
 use std::time;
+use test_parts::{Count, SHAKE_ALICE, SHAKE_ROOT};
 
 /// The most that a source gives.
 const MOST: usize = 4096;

@@ -4,17 +4,11 @@
 #[cfg(test)]
 mod alike;
 #[cfg(test)]
-mod board;
-#[cfg(test)]
 mod calls;
-#[cfg(test)]
-mod clients;
 #[cfg(test)]
 mod crossing;
 #[cfg(test)]
 mod cues;
-#[cfg(test)]
-mod files;
 #[cfg(test)]
 mod listening;
 #[cfg(test)]
@@ -25,3 +19,5 @@ mod rows;
 mod sockets;
 #[cfg(test)]
 mod wire;
+#[cfg(test)]
+mod written;

@@ -2,9 +2,9 @@
 ghost use Rattle.pk_outside.specs.Causes.{RoseWhere};
 ghost use Rattle.pk_outside.specs.Stations.{has_fault};
 
-use crate::board::Count;
 use pk_outside::{Ends, Station, StationRefused};
 use pk_types::Text;
+use test_parts::Count;
 
 /// A station that counts its doors.
 #[derive(Drop)]

@@ -1,5 +1,5 @@
 // A service over objects in memory.
-use crate::files::{joined, texts, tree};
+use crate::written::joined;
 use authority_service::serve;
 use pk_outside::{
     ByteLink, ByteSink, ByteSource, DoorPlan, ListStation, ListTree, Sink, Station, StationPlan,
@@ -10,6 +10,7 @@ use serve_words::read_plan;
 use std::alloc::Global;
 use std::sync::Wait;
 use std::thread::Threads;
+use test_parts::{texts, tree};
 
 /// The most bytes of a link or of an output.
 pub const ROOM: usize = 4096;

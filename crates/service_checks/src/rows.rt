@@ -1,12 +1,13 @@
 // Services over memory, with what comes of them.
-use crate::files::{is_made, is_told};
 use crate::memory::{Fault, LinkRow, ROOM, Scene, Served, play};
-use crate::wire::{CHANGED, CHECK_YES, DONE, OK, RELOAD, SHAKE_ALICE, SHAKE_ROOT, YES_ANY};
+use crate::wire::{CHANGED, DONE, OK, YES_ANY};
+use crate::written::{is_made, is_told};
 use pk_types::NoMemory;
 use std::alloc::Global;
 use std::sync::Wait;
 use std::test::Fail;
 use std::thread::Threads;
+use test_parts::{CHECK_YES, RELOAD, SHAKE_ALICE, SHAKE_ROOT};
 
 /// What may come of a service: with what the text of its end begins, what its lines begin and end
 /// with, and what the first link of each door was sent.

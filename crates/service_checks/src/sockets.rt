@@ -1,20 +1,13 @@
 // A service over sockets, with an agent and a check as its clients.
-use crate::board::Count;
-use crate::clients::ClientStation;
-use crate::files::{is_told, output, texts, tree};
 use crate::listening::ListeningStation;
+use crate::written::is_told;
 use pk_outside::{ByteSource, Station};
 use pk_types::{NoMemory, Text, TextList};
 use pkcheck_tool::{CheckStatus, pkcheck};
 use polkit_daemon::polkitd;
-use rand::rngs::StdRng;
-use rand::{RngExt, make_rng};
-use real_station::SocketStation;
 use script_agent::{AgentStatus, script_agent};
 use std::alloc::Global;
-use std::env::{self, Env};
 use std::fs::{self, Files};
-use std::io;
 use std::net::Net;
 use std::process::Abort;
 use std::random::RandomSource;
@@ -22,6 +15,7 @@ use std::sync::Wait;
 use std::test::Fail;
 use std::thread::{Threads, join};
 use std::time::Clock;
+use test_parts::{Count, HeardStation, new_folder, output, socket_station, texts, tree, watch};
 
 /// The doors of the service.
 const DOORS: u64 = 3;
@@ -29,9 +23,6 @@ const DOORS: u64 = 3;
 /// The server's line of the handshake has 37 bytes. The next byte belongs to the reply to the
 /// registration.
 const REGISTERED: u64 = 38;
-
-/// The most turns of the whole run, each of one millisecond.
-const MAX_TURNS: u32 = 30_000;
 
 /// What the threads tell one another.
 #[derive(Drop)]
@@ -117,13 +108,6 @@ fn words_for(alloc: Global, folder: &str) -> Result<Commands, NoMemory> {
     })
 }
 
-/// A station of the system.
-fn station<R: Net + Files + Clock + RandomSource + AllocGlobal + Sync>(
-    rt: &R,
-) -> io::Result<SocketStation<'_, R>> {
-    Ok(SocketStation::new(rt, rt.alloc(), make_rng(rt)?))
-}
-
 /// Runs the service over a station.
 fn serve_over<R: Threads + Wait + AllocGlobal + Sync, N: Station>(
     rt: &R,
@@ -159,12 +143,14 @@ fn attend_over<R: Clock + AllocGlobal + Sync, N: Station>(
     board: &Board,
 ) -> Option<(AgentStatus, Vec<u8>)> {
     let alloc = rt.alloc();
-    let mut station = ClientStation {
+    let waits = [(&board.doors, DOORS)];
+    let mut station = HeardStation {
         rt,
+        alloc,
         inner,
-        doors: (&board.doors, DOORS),
-        other: (&board.agent, 0),
+        waits: waits.as_slice(),
         given: &board.agent,
+        kept: Vec::new(alloc),
     };
     let mut tree = tree(alloc, Vec::new(alloc)).ok()?;
     let mut output = output(alloc).ok()?;
@@ -180,35 +166,18 @@ fn check_over<R: Clock + AllocGlobal + Sync, N: Station>(
     board: &Board,
 ) -> Option<(CheckStatus, Vec<u8>)> {
     let alloc = rt.alloc();
-    let mut station = ClientStation {
+    let waits = [(&board.doors, DOORS), (&board.agent, REGISTERED)];
+    let mut station = HeardStation {
         rt,
+        alloc,
         inner,
-        doors: (&board.doors, DOORS),
-        other: (&board.agent, REGISTERED),
+        waits: waits.as_slice(),
         given: &board.check,
+        kept: Vec::new(alloc),
     };
     let mut output = output(alloc).ok()?;
     let status = pkcheck(alloc, words, &mut station, &mut output);
     Some((status, output.bytes().to_vec(alloc).ok()?))
-}
-
-/// Ends the process where the run does not end in time.
-fn watch<R: Clock + Abort>(rt: &R, over: &Count) {
-    assert!(rt;
-        over.reaches_within(rt, 1, MAX_TURNS),
-        "the run does not end"
-    );
-}
-
-/// A new folder among those for files that go.
-fn new_folder<R: Files + Env + RandomSource + AllocGlobal>(rt: &R) -> io::Result<String> {
-    let mut words: StdRng = make_rng(rt)?;
-    let word: u64 = words.random();
-    let place = env::temp_dir(rt)?;
-    let place = place.as_str();
-    let folder = format!(in rt.alloc(); "{place}/polkit-{word:016x}")?;
-    fs::create_dir(rt, folder.as_str())?;
-    Ok(folder)
 }
 
 /// What the lines of the service begin with, and what they end with. The number of a connection stands
@@ -220,30 +189,46 @@ const LINES: &[(&str, &str)] = &[
     ("entries ", " loads 1 refused 0"),
 ];
 
+/// What the service, the agent and the check came to.
+type Ended = (
+    Option<(u8, Vec<u8>)>,
+    (
+        Option<(AgentStatus, Vec<u8>)>,
+        Option<(CheckStatus, Vec<u8>)>,
+    ),
+);
+
+/// Runs the service, the agent and the check beside each other.
+fn run<R: Threads + Wait + Net + Files + Clock + RandomSource + AllocGlobal + Sync>(
+    rt: &R,
+    words: &Commands,
+    board: &Board,
+) -> Ended {
+    let ended = join(
+        rt,
+        move || serve_over(rt, words.serve.as_slice(), socket_station(rt).ok()?, board),
+        move || {
+            join(
+                rt,
+                move || attend_over(rt, words.agent.as_slice(), socket_station(rt).ok()?, board),
+                move || check_over(rt, words.check.as_slice(), socket_station(rt).ok()?, board),
+            )
+        },
+    );
+    board.over.add(1);
+    ended
+}
+
 #[test]
 fn agent_over_sockets(rt: HostRuntime) -> Result<(), Fail> {
     let folder = new_folder(&rt)?;
     let commands = words_for(rt.alloc(), folder.as_str())?;
-    let counts = Board::new();
-    let (run, words, board) = (&rt, &commands, &counts);
+    let board = Board::new();
+    let (host, commands, board) = (&rt, &commands, &board);
     let ((), (served, (agent, check))) = join(
-        run,
-        move || watch(run, &board.over),
-        move || {
-            let ended = join(
-                run,
-                move || serve_over(run, words.serve.as_slice(), station(run).ok()?, board),
-                move || {
-                    join(
-                        run,
-                        move || attend_over(run, words.agent.as_slice(), station(run).ok()?, board),
-                        move || check_over(run, words.check.as_slice(), station(run).ok()?, board),
-                    )
-                },
-            );
-            board.over.add(1);
-            ended
-        },
+        host,
+        move || watch(host, &board.over),
+        move || run(host, commands, board),
     );
     let removed = fs::remove_dir(&rt, folder.as_str());
     let (status, lines) = check.expect(&rt, "a check");

@@ -1,22 +1,12 @@
 // What the connections send and are sent. It was marshalled apart from these crates, by the D-Bus
 // Specification.
 
-/// A handshake of user 1000.
-pub const SHAKE_ALICE: &[u8] = b"\0AUTH EXTERNAL 31303030\r\nBEGIN\r\n";
-
-/// The same of root.
-pub const SHAKE_ROOT: &[u8] = b"\0AUTH EXTERNAL 30\r\nBEGIN\r\n";
-
 /// What a handshake is answered, where the random word is 0.
 pub const OK: &[u8] = b"OK 00000000000000000000000000000000\r\n";
 
 /// RegisterAuthenticationAgent for the process 50 with the start time 7, with the serial 1.
 pub const REGISTER: &[u8] =
     b"l\x01\0\x01[\0\0\0\x01\0\0\0\x98\0\0\0\x01\x01o\0%\0\0\0/org/freedesktop/PolicyKit1/Authority\0\0\0\x02\x01s\0$\0\0\0org.freedesktop.PolicyKit1.Authority\0\0\0\0\x03\x01s\0\x1b\0\0\0RegisterAuthenticationAgent\0\0\0\0\0\x08\x01g\0\n(sa{sv})ss\0\x0c\0\0\0unix-process\0\0\0\00\0\0\0\x03\0\0\0pid\0\x01u\0\02\0\0\0\n\0\0\0start-time\0\x01t\0\0\0\0\0\0\0\x07\0\0\0\0\0\0\0\x01\0\0\0C\0\0\0\x06\0\0\0/agent\0";
-
-/// CheckAuthorization of that process for `a.self`, with the serial 1. The user may be asked.
-pub const CHECK: &[u8] =
-    b"l\x01\0\x01a\0\0\0\x01\0\0\0\x96\0\0\0\x01\x01o\0%\0\0\0/org/freedesktop/PolicyKit1/Authority\0\0\0\x02\x01s\0$\0\0\0org.freedesktop.PolicyKit1.Authority\0\0\0\0\x03\x01s\0\x12\0\0\0CheckAuthorization\0\0\0\0\0\0\x08\x01g\0\x10(sa{sv})sa{ss}us\0\0\0\x0c\0\0\0unix-process\0\0\0\00\0\0\0\x03\0\0\0pid\0\x01u\0\02\0\0\0\n\0\0\0start-time\0\x01t\0\0\0\0\0\0\0\x07\0\0\0\0\0\0\0\x06\0\0\0a.self\0\0\0\0\0\0\x01\0\0\0\0\0\0\0\0";
 
 /// AuthenticationAgentResponse for the first cookie, where the random word is 0, and the user 1000,
 /// with the serial 1.
@@ -37,17 +27,9 @@ pub const BEGIN: &[u8] =
 pub const YES: &[u8] =
     b"l\x02\x01\x016\0\0\0\x01\0\0\0\x17\0\0\0\x05\x01u\0\x01\0\0\0\x08\x01g\0\x09(bba{ss})\0\0\x01\0\0\0\0\0\0\0&\0\0\0\0\0\0\0\x11\0\0\0polkit.decided-by\0\0\0\x09\0\0\0challenge\0";
 
-/// CheckAuthorization of the process 51 with the start time 8 for `a.yes`, with the serial 1.
-pub const CHECK_YES: &[u8] =
-    b"l\x01\0\x01a\0\0\0\x01\0\0\0\x96\0\0\0\x01\x01o\0%\0\0\0/org/freedesktop/PolicyKit1/Authority\0\0\0\x02\x01s\0$\0\0\0org.freedesktop.PolicyKit1.Authority\0\0\0\0\x03\x01s\0\x12\0\0\0CheckAuthorization\0\0\0\0\0\0\x08\x01g\0\x10(sa{sv})sa{ss}us\0\0\0\x0c\0\0\0unix-process\0\0\0\00\0\0\0\x03\0\0\0pid\0\x01u\0\03\0\0\0\n\0\0\0start-time\0\x01t\0\0\0\0\0\0\0\x08\0\0\0\0\0\0\0\x05\0\0\0a.yes\0\0\0\0\0\0\0\0\0\0\0\0\0\0\0\0";
-
 /// Yes by the default for any, with the serial 1, to the serial 1.
 pub const YES_ANY: &[u8] =
     b"l\x02\x01\x018\0\0\0\x01\0\0\0\x17\0\0\0\x05\x01u\0\x01\0\0\0\x08\x01g\0\x09(bba{ss})\0\0\x01\0\0\0\0\0\0\0(\0\0\0\0\0\0\0\x11\0\0\0polkit.decided-by\0\0\0\x0b\0\0\0default:any\0";
-
-/// Reload, with the serial 1.
-pub const RELOAD: &[u8] =
-    b"l\x01\0\x01\0\0\0\0\x01\0\0\0o\0\0\0\x01\x01o\0%\0\0\0/org/freedesktop/PolicyKit1/Authority\0\0\0\x02\x01s\0\"\0\0\0org.freedesktop.PolicyKit1.Profile\0\0\0\0\0\0\x03\x01s\0\x06\0\0\0Reload\0\0";
 
 /// The signal Changed, with the serial 2.
 pub const CHANGED: &[u8] =

@@ -4,7 +4,7 @@ use Rattle.authority_model.specs.declared.journal.Item.{Item}
 use Rattle.authority_model.specs.Peers.{uid_of}
 use Rattle.shared_authority.specs.Journals.{past_of}
 use Rattle.serve_loader.proofs.Going.{unconnected_learned, unconnected_load}
-use Rattle.audit_checks.proofs.passes.begin.Goals as goal
+use Rattle.test_parts.proofs.passes.begin.Goals as goal
 
 pub returns-clause-fresh : goal.returns-clause-fresh
 returns-clause-fresh g c =

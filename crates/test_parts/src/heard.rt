@@ -1,17 +1,21 @@
-// The station of the agent, which keeps what its links read.
+// A station that waits before it dials, and keeps what its links read.
 ghost use Rattle.pk_outside.specs.Causes.{RoseWhere};
 ghost use Rattle.pk_outside.specs.Stations.{has_fault};
 
-use crate::board::Count;
+use crate::count::Count;
 use pk_outside::{Ends, Failed, Link, Source, Station, StationRefused};
 use pk_types::Text;
 use std::alloc::Global;
+use std::time::Clock;
 
-/// A station that keeps what its links read.
+/// A station that waits before it dials, and keeps what its links read. It opens no door.
 #[derive(Drop)]
-pub struct KeepingStation<'a, N: Station> {
+pub struct HeardStation<'a, R: Clock, N: Station> {
+    pub rt: &'a R,
     pub alloc: Global,
     pub inner: N,
+    /// What has to be reached before it dials.
+    pub waits: &'a [(&'a Count, u64)],
     /// The bytes that its links gave.
     pub given: &'a Count,
     /// What each link read, in the order in which they were hung up.
@@ -20,7 +24,7 @@ pub struct KeepingStation<'a, N: Station> {
 
 /// A link whose bytes are kept.
 #[derive(Drop)]
-pub struct KeptLink<'a, L: Link> {
+pub struct HeardLink<'a, L: Link> {
     inner: L,
     given: &'a Count,
     kept: Vec<u8>,
@@ -28,13 +32,13 @@ pub struct KeptLink<'a, L: Link> {
 
 /// A source whose bytes are kept.
 #[derive(Drop)]
-pub struct KeptSource<'a, I: Source> {
+pub struct HeardSource<'a, I: Source> {
     inner: I,
     given: &'a Count,
     kept: Vec<u8>,
 }
 
-impl<'a, I: Source> Source for KeptSource<'a, I> {
+impl<'a, I: Source> Source for HeardSource<'a, I> {
     ghost use Rattle.std.specs.Prelude.{None};
 
     ghost left = { λ _. None };
@@ -49,7 +53,7 @@ impl<'a, I: Source> Source for KeptSource<'a, I> {
 
     ghost ended_is_used_up = { λ s at_end. tt };
 
-    /// Where memory is refused the bytes are not kept, as the audit then shows.
+    /// Where memory is refused the bytes are not kept.
     fn read(&mut self, buffer: &mut [u8]) -> Result<usize, Failed> {
         let count = self.inner.read(buffer)?;
         let (bytes, _) = buffer.split_at(count);
@@ -59,20 +63,20 @@ impl<'a, I: Source> Source for KeptSource<'a, I> {
     }
 }
 
-impl<'a, L: Link> Link for KeptLink<'a, L> {
+impl<'a, L: Link> Link for HeardLink<'a, L> {
     ghost use Rattle.std.specs.Prelude.{None};
 
-    type In = KeptSource<'a, L::In>;
+    type In = HeardSource<'a, L::In>;
 
     type Out = L::Out;
 
     ghost origin = { λ _. None };
 
-    fn split(self) -> Ends<KeptLink<'a, L>> {
-        let KeptLink { inner, given, kept } = self;
+    fn split(self) -> Ends<HeardLink<'a, L>> {
+        let HeardLink { inner, given, kept } = self;
         let Ends { input, output } = inner.split();
         Ends {
-            input: KeptSource {
+            input: HeardSource {
                 inner: input,
                 given,
                 kept,
@@ -82,12 +86,12 @@ impl<'a, L: Link> Link for KeptLink<'a, L> {
     }
 }
 
-impl<'a, N: Station> Station for KeepingStation<'a, N> {
+impl<'a, R: Clock + Sync, N: Station> Station for HeardStation<'a, R, N> {
     ghost use Rattle.std.specs.Prelude.{None};
 
     type Door = N::Door;
 
-    type Link = KeptLink<'a, N::Link>;
+    type Link = HeardLink<'a, N::Link>;
 
     type Clock = N::Clock;
 
@@ -101,9 +105,15 @@ impl<'a, N: Station> Station for KeepingStation<'a, N> {
         Err(StationRefused::NoMemory)
     }
 
-    fn dial(&mut self, path: &Text) -> Result<KeptLink<'a, N::Link>, StationRefused> {
+    /// A wait that does not end is told as want of memory, which is no fault of the station.
+    fn dial(&mut self, path: &Text) -> Result<HeardLink<'a, N::Link>, StationRefused> {
+        for (count, wanted) in self.waits {
+            if !count.reaches(self.rt, *wanted) {
+                return Err(StationRefused::NoMemory);
+            }
+        }
         let inner = self.inner.dial(path)?;
-        Ok(KeptLink {
+        Ok(HeardLink {
             inner,
             given: self.given,
             kept: Vec::new(self.alloc),
@@ -122,11 +132,11 @@ impl<'a, N: Station> Station for KeepingStation<'a, N> {
         self.inner.shut(door, clock, salt)
     }
 
-    fn hang(&mut self, ends: Ends<KeptLink<'a, N::Link>>)
+    fn hang(&mut self, ends: Ends<HeardLink<'a, N::Link>>)
         ensures count { RoseWhere (has_fault (N.Link.In.faults ends.entry.input.inner) (N.Link.Out.faults ends.entry.output)) (N.faults self.old.inner) (N.faults self.new.inner) }
     {
         let Ends { input, output } = ends;
-        let KeptSource {
+        let HeardSource {
             inner,
             given: _,
             kept,

@@ -1,10 +1,12 @@
-// The tree of files of the service and of the agent, and texts.
-use pk_outside::{ListTree, TreeDirectory, TreeFile};
+// The tree of files of a service and of an agent, words, and outputs.
+use pk_outside::{ByteSink, ListTree, TreeDirectory, TreeFile};
 use pk_types::{ByteList, List, NoMemory, Text, TextList};
 use std::alloc::Global;
-use std::str;
 
-/// The root of the service.
+/// The room of an output.
+const ROOM: usize = 4096;
+
+/// The root of a service.
 pub const ROOT: &str = "/r";
 
 /// The directory of the actions below the root.
@@ -15,7 +17,7 @@ const ACTIONS_AT: &str = "/r/usr/share/polkit-1/actions";
 const ACTIONS: &str =
     "<policyconfig><action id=\"a.self\"><message>Authentication is required</message><defaults><allow_any>auth_self</allow_any><allow_active>auth_self</allow_active></defaults></action><action id=\"a.keep\"><message>Authentication is kept</message><defaults><allow_any>auth_self_keep</allow_any><allow_active>auth_self_keep</allow_active></defaults></action><action id=\"a.yes\"><defaults><allow_any>yes</allow_any></defaults></action></policyconfig>";
 
-/// The files of the service below the root, and the rules of the agent.
+/// The files of a service below the root, and the rules of an agent.
 const FILES: &[(&str, &str)] = &[
     ("/r/usr/share/polkit-1/actions/a.policy", ACTIONS),
     ("/r/etc/passwd", "alice:x:1000:1000:::\n"),
@@ -61,14 +63,14 @@ fn directories(alloc: Global) -> Result<List<TreeDirectory>, NoMemory> {
     Ok(directories)
 }
 
-/// The tree of the files.
-pub fn tree(alloc: Global) -> Result<ListTree, NoMemory> {
+/// The tree of the files, whose calls with these numbers fail.
+pub fn tree(alloc: Global, failing: Vec<u64>) -> Result<ListTree, NoMemory> {
     let files = files(alloc, FILES)?;
     let directories = directories(alloc)?;
-    Ok(ListTree::new(alloc, files, directories, Vec::new(alloc)))
+    Ok(ListTree::new(alloc, files, directories, failing))
 }
 
-/// The path of a file, or none.
-pub fn path_of(path: &Text) -> &str {
-    str::from_utf8(path.bytes()).unwrap_or("")
+/// An output.
+pub fn output(alloc: Global) -> Result<ByteSink, NoMemory> {
+    ByteSink::new(alloc, ROOM, ROOM, Vec::new(alloc))
 }
