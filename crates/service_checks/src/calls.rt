@@ -1,6 +1,6 @@
 // Services of which one call after another fails.
-use crate::files::is_told;
 use crate::memory::{Fault, LinkRow, ROOM, Scene, play};
+use crate::written::is_told;
 use pk_types::NoMemory;
 use std::alloc::Global;
 use std::sync::Wait;
