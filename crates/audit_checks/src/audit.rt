@@ -19,7 +19,7 @@ use std::sync::Wait;
 use std::test::Fail;
 use std::thread::{Threads, join, map_indices};
 use std::time::Clock;
-use test_parts::{new_folder, socket_station, text, texts, watch};
+use test_parts::{TURNS_OF_RUN, new_folder, socket_station, text, texts};
 
 /// The words of the agent, and the paths of the doors.
 #[derive(Drop)]
@@ -188,7 +188,10 @@ fn connections_hold_to_one_history(rt: HostRuntime) -> Result<(), Fail> {
     let (host, plan, board) = (&rt, &plan, &board);
     let ((), (served, heard)) = join(
         host,
-        move || watch(host, &board.over),
+        move || {
+            let ends = board.over.reaches_within(host, 1, TURNS_OF_RUN);
+            assert!(host; ends, "the run does not end");
+        },
         move || run(host, plan, board),
     );
     let removed = fs::remove_dir(&rt, folder.as_str());

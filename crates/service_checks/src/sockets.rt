@@ -9,13 +9,14 @@ use script_agent::{AgentStatus, script_agent};
 use std::alloc::Global;
 use std::fs::{self, Files};
 use std::net::Net;
-use std::process::Abort;
 use std::random::RandomSource;
 use std::sync::Wait;
 use std::test::Fail;
 use std::thread::{Threads, join};
 use std::time::Clock;
-use test_parts::{Count, HeardStation, new_folder, output, socket_station, texts, tree, watch};
+use test_parts::{
+    Count, HeardStation, TURNS_OF_RUN, new_folder, output, socket_station, texts, tree,
+};
 
 /// The doors of the service.
 const DOORS: u64 = 3;
@@ -227,7 +228,10 @@ fn agent_over_sockets(rt: HostRuntime) -> Result<(), Fail> {
     let (host, commands, board) = (&rt, &commands, &board);
     let ((), (served, (agent, check))) = join(
         host,
-        move || watch(host, &board.over),
+        move || {
+            let ends = board.over.reaches_within(host, 1, TURNS_OF_RUN);
+            assert!(host; ends, "the run does not end");
+        },
         move || run(host, commands, board),
     );
     let removed = fs::remove_dir(&rt, folder.as_str());

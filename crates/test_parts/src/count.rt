@@ -1,5 +1,4 @@
 // Counts that threads raise and wait for, and waits that end.
-use std::process::Abort;
 use std::sync::atomic::{AtomicU64, Ordering};
 use std::thread;
 use std::time::{Clock, Duration};
@@ -8,7 +7,7 @@ use std::time::{Clock, Duration};
 const MAX_TURNS: u32 = 10_000;
 
 /// The most turns of a whole run.
-const MAX_TURNS_OF_RUN: u32 = 40_000;
+pub const TURNS_OF_RUN: u32 = 40_000;
 
 /// A count that threads raise and others wait for.
 #[derive(Drop)]
@@ -45,12 +44,4 @@ impl Count {
     pub fn reaches<R: Clock>(&self, rt: &R, wanted: u64) -> bool {
         self.reaches_within(rt, wanted, MAX_TURNS)
     }
-}
-
-/// Ends the process where a run does not end within 40,000 turns.
-pub fn watch<R: Clock + Abort>(rt: &R, over: &Count) {
-    assert!(rt;
-        over.reaches_within(rt, 1, MAX_TURNS_OF_RUN),
-        "the run does not end"
-    );
 }

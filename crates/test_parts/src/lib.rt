@@ -9,7 +9,7 @@ mod passes;
 mod trees;
 mod wire;
 
-pub use count::{Count, watch};
+pub use count::{Count, TURNS_OF_RUN};
 pub use folder::{new_folder, socket_station};
 pub use heard::{HeardLink, HeardSource, HeardStation};
 pub use passes::{begin, new_pass};
