@@ -9,15 +9,15 @@ use crate::script::{CALLS, CHALLENGES, CLIENTS, serial_of, uid_of};
 use crate::serving::{Served, serve_over};
 use crate::slots::Paths;
 use pk_types::{NoMemory, TextList};
+use real_station::SocketStation;
 use script_agent::AgentStatus;
 use std::alloc::Global;
 use std::fs::{self, Files};
 use std::net::Net;
 use std::process::Abort;
 use std::random::RandomSource;
-use std::sync::Wait;
 use std::test::Fail;
-use std::thread::{Threads, join, map_indices};
+use std::thread::{join, map_indices};
 use std::time::Clock;
 use test_parts::{TURNS_OF_RUN, new_folder, socket_station, text, texts};
 
@@ -65,6 +65,13 @@ fn plan_in(alloc: Global, folder: &str) -> Result<Plan, NoMemory> {
         root: text(alloc, root.as_str())?,
     };
     Ok(Plan { words, paths })
+}
+
+/// A station of the system.
+fn station<R: Net + Files + Clock + RandomSource + AllocGlobal + Sync>(
+    rt: &R,
+) -> Result<SocketStation<'_, R>, Flaw> {
+    socket_station(rt).map_err(|_| Flaw::NoWords)
 }
 
 /// The accounts of all connections, in the order of the slots, by the history that was handed in again.
@@ -125,79 +132,56 @@ fn compare<R: Abort>(rt: &R, accounts: &[Account], heard: &Heard) {
     }
 }
 
-/// All clients at once.
-fn run_clients<R: Threads + Wait + Net + Clock + Sync>(
-    rt: &R,
-    alloc: Global,
-    paths: &Paths,
-    board: &Board,
-) -> Result<Vec<Result<Vec<u8>, Flaw>>, NoMemory> {
-    let clients = map_indices(
-        rt,
-        alloc,
-        CLIENTS,
-        &|client: usize| run_client(rt, alloc, client, paths.of_client(client), board),
-    )?;
-    Ok(clients)
-}
-
-/// The agent beside the clients.
-fn hear<R: Threads + Wait + Net + Files + Clock + RandomSource + AllocGlobal + Sync>(
-    rt: &R,
-    plan: &Plan,
-    board: &Board,
-) -> Result<Heard, NoMemory> {
-    let alloc = rt.alloc();
-    let (agent, clients) = join(
-        rt,
-        move || {
-            let station = socket_station(rt).map_err(|_| Flaw::NoWords)?;
-            attend(rt, alloc, plan.words.as_slice(), station, board)
-        },
-        move || run_clients(rt, alloc, &plan.paths, board),
-    );
-    Ok(Heard {
-        agent,
-        clients: clients?,
-    })
-}
-
-/// The service beside the agent and the clients.
-fn run<R: Threads + Wait + Net + Files + Clock + RandomSource + AllocGlobal + Sync>(
-    rt: &R,
-    plan: &Plan,
-    board: &Board,
-) -> (Result<Served, Flaw>, Result<Heard, NoMemory>) {
-    let ended = join(
-        rt,
-        move || {
-            let station = socket_station(rt).map_err(|_| Flaw::NoWords)?;
-            serve_over(rt, rt.alloc(), &plan.paths, station, board)
-        },
-        move || hear(rt, plan, board),
-    );
-    board.over.add(1);
-    ended
-}
-
 #[test]
 fn connections_hold_to_one_history(rt: HostRuntime) -> Result<(), Fail> {
     let folder = new_folder(&rt)?;
     let plan = plan_in(rt.alloc(), folder.as_str())?;
-    let board = Board::new();
-    let (host, plan, board) = (&rt, &plan, &board);
-    let ((), (served, heard)) = join(
-        host,
+    let counts = Board::new();
+    let (run, alloc, plan, board) = (&rt, rt.alloc(), &plan, &counts);
+    let ((), (agent, (clients, served))) = join(
+        run,
         move || {
-            let ends = board.over.reaches_within(host, 1, TURNS_OF_RUN);
-            assert!(host; ends, "the run does not end");
+            let ends = board.over.reaches_within(run, 1, TURNS_OF_RUN);
+            assert!(run; ends, "the run does not end");
         },
-        move || run(host, plan, board),
+        move || {
+            let ended = join(
+                run,
+                move || attend(run, alloc, plan.words.as_slice(), station(run)?, board),
+                move || {
+                    join(
+                        run,
+                        move || {
+                            map_indices(
+                                run,
+                                alloc,
+                                CLIENTS,
+                                &|client: usize| {
+                                    run_client(
+                                        run,
+                                        alloc,
+                                        client,
+                                        plan.paths.of_client(client),
+                                        board,
+                                    )
+                                },
+                            )
+                        },
+                        move || serve_over(run, alloc, &plan.paths, station(run)?, board),
+                    )
+                },
+            );
+            board.over.add(1);
+            ended
+        },
     );
     let removed = fs::remove_dir(&rt, folder.as_str());
-    let heard = heard?;
+    let heard = Heard {
+        agent,
+        clients: clients?,
+    };
     match served {
-        Ok(served) => match audit(rt.alloc(), &served) {
+        Ok(served) => match audit(alloc, &served) {
             Ok(accounts) => compare(&rt, accounts.as_slice(), &heard),
             Err(flaw) => panic!(rt; "no audit: {flaw:?}"),
         },

@@ -7,9 +7,7 @@ use pkcheck_tool::{CheckStatus, pkcheck};
 use polkit_daemon::polkitd;
 use script_agent::{AgentStatus, script_agent};
 use std::alloc::Global;
-use std::fs::{self, Files};
-use std::net::Net;
-use std::random::RandomSource;
+use std::fs;
 use std::sync::Wait;
 use std::test::Fail;
 use std::thread::{Threads, join};
@@ -190,36 +188,6 @@ const LINES: &[(&str, &str)] = &[
     ("entries ", " loads 1 refused 0"),
 ];
 
-/// What the service, the agent and the check came to.
-type Ended = (
-    Option<(u8, Vec<u8>)>,
-    (
-        Option<(AgentStatus, Vec<u8>)>,
-        Option<(CheckStatus, Vec<u8>)>,
-    ),
-);
-
-/// Runs the service, the agent and the check beside each other.
-fn run<R: Threads + Wait + Net + Files + Clock + RandomSource + AllocGlobal + Sync>(
-    rt: &R,
-    words: &Commands,
-    board: &Board,
-) -> Ended {
-    let ended = join(
-        rt,
-        move || serve_over(rt, words.serve.as_slice(), socket_station(rt).ok()?, board),
-        move || {
-            join(
-                rt,
-                move || attend_over(rt, words.agent.as_slice(), socket_station(rt).ok()?, board),
-                move || check_over(rt, words.check.as_slice(), socket_station(rt).ok()?, board),
-            )
-        },
-    );
-    board.over.add(1);
-    ended
-}
-
 #[test]
 fn agent_over_sockets(rt: HostRuntime) -> Result<(), Fail> {
     let folder = new_folder(&rt)?;
@@ -232,7 +200,36 @@ fn agent_over_sockets(rt: HostRuntime) -> Result<(), Fail> {
             let ends = board.over.reaches_within(host, 1, TURNS_OF_RUN);
             assert!(host; ends, "the run does not end");
         },
-        move || run(host, commands, board),
+        move || {
+            let ended = join(
+                host,
+                move || serve_over(
+                    host,
+                    commands.serve.as_slice(),
+                    socket_station(host).ok()?,
+                    board,
+                ),
+                move || {
+                    join(
+                        host,
+                        move || attend_over(
+                            host,
+                            commands.agent.as_slice(),
+                            socket_station(host).ok()?,
+                            board,
+                        ),
+                        move || check_over(
+                            host,
+                            commands.check.as_slice(),
+                            socket_station(host).ok()?,
+                            board,
+                        ),
+                    )
+                },
+            );
+            board.over.add(1);
+            ended
+        },
     );
     let removed = fs::remove_dir(&rt, folder.as_str());
     let (status, lines) = check.expect(&rt, "a check");
