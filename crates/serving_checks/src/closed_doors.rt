@@ -2,6 +2,7 @@
 ghost use Rattle.std.specs.Prelude.{◌≡◌};
 ghost use Rattle.authority_model.specs.Entering.{AreAllowed};
 
+use crate::passes::new_pass;
 use authority_model::Limits;
 use empty_station::EmptyStation;
 use history_lock::{Opened, TableName, open_table};
@@ -14,7 +15,6 @@ use std::process::Abort;
 use std::sync::Wait;
 use std::test::Fail;
 use std::thread::Threads;
-use test_parts::new_pass;
 
 #[test]
 fn closed_doors_stop_their_slots(rt: HostRuntime) -> Result<(), Fail> {
@@ -45,8 +45,8 @@ fn stop_two_slots<
     let (shared, mut control) = Shared::<L, T>::start(alloc, limits, opened)?;
     let mut station = EmptyStation::new();
     let path = Text::try_from_bytes(alloc, b"/u")?;
-    let one = new_pass(rt, &shared, &mut control).ok_or("admits")?;
-    let two = new_pass(rt, &shared, &mut control).ok_or("admits")?;
+    let one = new_pass(rt, &shared, &mut control)?;
+    let two = new_pass(rt, &shared, &mut control)?;
     let mut slots = Vec::new(alloc);
     slots.push(open_slot(alloc, &mut station, 1000, &path, 0, one)?)?;
     slots.push(open_slot(alloc, &mut station, 1000, &path, 1, two)?)?;

@@ -3,6 +3,7 @@ ghost use Rattle.std.specs.Prelude.{◌≡◌};
 ghost use Rattle.authority_model.specs.Entering.{AreAllowed};
 ghost use Rattle.authority_model.specs.Given.{IsStepped};
 
+use crate::passes::begin;
 use authority_model::{Call, Event, History, Limits, Loaded, MAX_BYTES};
 use history_lock::{EndCause, Opened, Pass, TableName, open_table};
 use pk_outside::ListTree;
@@ -15,7 +16,6 @@ use std::process::Abort;
 use std::sync::Wait;
 use std::test::Fail;
 use std::thread::Threads;
-use test_parts::begin;
 
 /// Room for the five entries before the loader's first.
 const FIVE_ENTRIES: Limits = Limits {
@@ -92,7 +92,7 @@ fn run_loader<
 {
     let root = Text::try_from_bytes(alloc, b"/r")?;
     let (shared, mut zero) = Shared::<L, T>::start(alloc, limits, opened)?;
-    let mut one = begin(rt, &shared, &mut zero, Loaded::empty(alloc)).ok_or("loads")?;
+    let mut one = begin(rt, &shared, &mut zero, Loaded::empty(alloc))?;
     assert!(rt; asks_for_loads(rt, &shared, &mut one));
     let end = serve_loader(rt, alloc, &shared, &mut zero, &root, &mut tree);
     assert_eq!(rt; end, ends);
