@@ -20,4 +20,4 @@ pub use machine::{EndCause, Machine};
 pub use pass::{Pass, TableName};
 pub use refused::{AdmitRefused, CallRefused};
 pub use view::{Counted, Kind, View};
-pub use woken::Woken;
+pub use woken::{Whom, Woken};

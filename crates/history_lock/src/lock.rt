@@ -1,5 +1,6 @@
 // The lock.
-ghost use Rattle.std.specs.Prelude.{max, ◌≡◌, ◌≤◌, List, [], None, Some, IfSome, IfOk, IfErr, IsOk};
+ghost use Rattle.std.specs.Prelude.{max, ◌≡◌, ◌≤◌, ◌⊎◌, List, [], None, Some, IfSome, IfOk, IfErr, IsOk, IsSome};
+ghost use Rattle.std.specs.Sync.Mutex.{mutex_guard_value};
 ghost use mathlib.Core.List.{IsPrefix};
 ghost use Rattle.history_lock.specs.declared.machine.EndCause.{EndCause};
 ghost use Rattle.history_lock.specs.Kinds.{longer_of};
@@ -13,10 +14,11 @@ use crate::refused::{AdmitRefused, CallRefused};
 use crate::steps;
 use crate::turns::Turns;
 use crate::view::{LockSeat, LockTable};
+use crate::woken::Whom;
 use pk_types::NoMemory;
 use std::alloc::Global;
 use std::marker::{Model, PhantomData};
-use std::sync::{Mutex, Wait};
+use std::sync::{Mutex, MutexGuard, Wait};
 
 /// A table that was just opened, for one lock. Contracts see its name.
 #[derive(Drop)]
@@ -131,12 +133,27 @@ impl<M: Machine, T: TableName> HistoryLock<M, T> {
         ensures number { pass.new.number ≡ pass.old.number }
         ensures grows { IsPrefix pass.old.history pass.new.history }
     {
-        let mut locked = self.locked.lock(rt);
-        let answer = locked.call(&self.table, pass, op);
-        let woken = locked.woken(answer.is_ok());
-        drop(locked);
-        self.turns.wake(woken);
-        answer
+        self.call_waking(rt, pass, op, Whom::All)
+    }
+
+    /// As `call`, but with `Whom::Others` a call that waits for the pass's own number is not woken:
+    /// the caller itself sees to what that one would have done.
+    pub fn call_waking<R: Wait>(
+        &self,
+        rt: &R,
+        pass: &mut Pass<M, T>,
+        op: M::Op,
+        whom: Whom,
+    ) -> Result<M::Reply, CallRefused<M::Op, M::Refusal>>
+        requires { (list : List M.Item) → M.legal list → M.is_ready pass.old.number op list }
+        ensures ok { IfOk result (λ reply.
+            Answered M.caller_of M.legal M.is_ready M.gives pass.old op reply pass.new) }
+        ensures err { IfErr result (λ r.
+            Refused M.caller_of M.legal M.refuses M.fits pass.old op r pass.new) }
+        ensures number { pass.new.number ≡ pass.old.number }
+        ensures grows { IsPrefix pass.old.history pass.new.history }
+    {
+        self.call_held(self.locked.lock(rt), pass, op, whom)
     }
 
     /// Waits until the operation is ready or the lock has ended, and then is as `call`.
@@ -153,13 +170,76 @@ impl<M: Machine, T: TableName> HistoryLock<M, T> {
         ensures number { pass.new.number ≡ pass.old.number }
         ensures grows { IsPrefix pass.old.history pass.new.history }
     {
-        let number = pass.number();
-        let mut locked = self
-            .turns
-            .of(M::awaits(&op))
-            .wait_while(rt, self.locked.lock(rt), |l| l.waits(number, &op));
+        let locked = self.lock_when_ready(rt, pass.number(), &op);
+        self.call_held(locked, pass, op, Whom::All)
+    }
+
+    /// Is as `call`, where the operation is ready or the lock has ended. Elsewhere it is None, the
+    /// pass has learned nothing, and the operation is dropped. It waits for the lock alone.
+    pub fn call_if_ready<R: Wait>(
+        &self,
+        rt: &R,
+        pass: &mut Pass<M, T>,
+        op: M::Op,
+    ) -> Option<Result<M::Reply, CallRefused<M::Op, M::Refusal>>>
+    where
+        M::Op: Drop,
+        ensures none { result ≡ None → pass.new ≡ pass.old }
+        ensures ok { IfSome result (λ answer. IfOk answer (λ reply.
+            Answered M.caller_of M.legal M.is_ready M.gives pass.old op reply pass.new)) }
+        ensures err { IfSome result (λ answer. IfErr answer (λ r.
+            Refused M.caller_of M.legal M.refuses M.fits pass.old op r pass.new)) }
+        ensures number { pass.new.number ≡ pass.old.number }
+        ensures grows { IsPrefix pass.old.history pass.new.history }
+    {
+        let locked = self.locked.lock(rt);
+        if locked.waits(pass.number(), &op) {
+            return None;
+        }
+        Some(self.call_held(locked, pass, op, Whom::All))
+    }
+
+    /// Waits until the operation of the caller is ready or the lock has ended. It has no clause, since
+    /// none speaks of waiting.
+    pub fn wait_until_ready<R: Wait>(&self, rt: &R, caller: u32, op: &M::Op) {
+        drop(self.lock_when_ready(rt, caller, op));
+    }
+
+    /// Takes the lock, once the operation of the caller is ready or the lock has ended.
+    fn lock_when_ready<R: Wait>(
+        &self,
+        rt: &R,
+        caller: u32,
+        op: &M::Op,
+    ) -> MutexGuard<'_, Locked<M, T>>
+        ensures { let held = mutex_guard_value result in
+            IsSome held.ended ⊎ M.is_ready caller op.now held.entries }
+    {
+        self.turns
+            .of(M::awaits(op))
+            .wait_while(rt, self.locked.lock(rt), |l| l.waits(caller, op))
+    }
+
+    /// Calls the machine while the lock is held, lets the lock go, and wakes whom the call wakes.
+    fn call_held(
+        &self,
+        locked: MutexGuard<'_, Locked<M, T>>,
+        pass: &mut Pass<M, T>,
+        op: M::Op,
+        whom: Whom,
+    ) -> Result<M::Reply, CallRefused<M::Op, M::Refusal>>
+        requires { let held = mutex_guard_value locked in IsSome held.ended
+            ⊎ (M.legal held.entries → M.is_ready pass.old.number op held.entries) }
+        ensures ok { IfOk result (λ reply.
+            Answered M.caller_of M.legal M.is_ready M.gives pass.old op reply pass.new) }
+        ensures err { IfErr result (λ r.
+            Refused M.caller_of M.legal M.refuses M.fits pass.old op r pass.new) }
+        ensures number { pass.new.number ≡ pass.old.number }
+        ensures grows { IsPrefix pass.old.history pass.new.history }
+    {
+        let mut locked = locked;
         let answer = locked.call(&self.table, pass, op);
-        let woken = locked.woken(answer.is_ok());
+        let woken = locked.woken(answer.is_ok(), whom);
         drop(locked);
         self.turns.wake(woken);
         answer

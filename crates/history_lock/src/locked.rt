@@ -2,6 +2,7 @@
 ghost use Rattle.std.specs.Prelude.{max, ◌≡◌, ℕ, suc, ◌+◌, ◌<◌, ◌≤◌, ◌⊎◌, List, [], ◌∷◌, ◌++◌, length, None, Some, IfOk, IfErr, MatchResult, MatchOption, IfSome, IsSome, true, false};
 ghost use mathlib.Core.List.{IsPrefix};
 ghost use Rattle.history_lock.specs.declared.view.Kind.TheVariants.{Book};
+ghost use Rattle.history_lock.specs.declared.woken.Whom.TheVariants.{All, Others};
 ghost use Rattle.history_lock.specs.Entries.{CallersBelow, OwnBelow, OwnBelowOrLast};
 ghost use Rattle.history_lock.specs.Causes.{KnowsEnd, known_or};
 ghost use Rattle.history_lock.specs.Names.{IsNamed};
@@ -15,7 +16,7 @@ use crate::pass::{Pass, TableName};
 use crate::refused::{AdmitRefused, CallRefused};
 use crate::steps;
 use crate::view::{LockSeat, LockTable};
-use crate::woken::Woken;
+use crate::woken::{Whom, Woken};
 use std::marker::{Brand, Model, PhantomData};
 
 /// How many passes a lock has.
@@ -205,18 +206,28 @@ impl<M: Machine, T: TableName> Locked<M, T> {
         self.cause.is_none() && !self.machine.ready(caller, op)
     }
 
-    /// Whom a call wakes: all that its entry has made ready, if it made one.
-    pub fn woken(&self, made_entry: bool) -> Woken
-        ensures { (list : List M.Item) (e : M.Item) (caller : ℕ) (op : M.Op)
+    /// Whom a call wakes, if it made an entry: all that this has made ready, or all of these but
+    /// those that wait for the caller's own number.
+    pub fn woken(&self, made_entry: bool, whom: Whom) -> Woken
+        ensures all { (list : List M.Item) (e : M.Item) (caller : ℕ) (op : M.Op)
             → made_entry ≡ true
+            → whom ≡ All
             → self.now.entries ≡ list ++ e ∷ []
             → M.is_ready caller op self.now.entries
             → M.is_ready caller op list ⊎ Wakes result (M.awaited op) }
+        ensures others { (list : List M.Item) (e : M.Item) (caller : ℕ) (op : M.Op)
+            → made_entry ≡ true
+            → whom ≡ Others
+            → self.now.entries ≡ list ++ e ∷ []
+            → M.is_ready caller op self.now.entries
+            → M.is_ready caller op list ⊎ (M.awaited op ≡ M.caller_of e) ⊎ Wakes result (M.awaited op) }
     {
-        if made_entry {
-            self.machine.woken()
-        } else {
-            Woken::nobody()
+        if !made_entry {
+            return Woken::nobody();
+        }
+        match whom {
+            Whom::All => self.machine.woken(),
+            Whom::Others => self.machine.woken_others(),
         }
     }
 

@@ -85,6 +85,14 @@ pub trait Machine {
             → is_ready caller op (entries self.now)
             → is_ready caller op list ⊎ Wakes result (awaited op) };
 
+    /// Whom the last entry wakes but for those that wait for its own caller's number: all others
+    /// that it has made ready, and perhaps more.
+    fn woken_others(&self) -> Woken
+        ensures { (list : List Self.Item) (e : Self.Item) (caller : ℕ) (op : Self.Op)
+            → entries self.now ≡ list ++ e ∷ []
+            → is_ready caller op (entries self.now)
+            → is_ready caller op list ⊎ (awaited op ≡ caller_of e) ⊎ Wakes result (awaited op) };
+
     /// No entry at all is legal.
     ghost begins: { legal [] };
 

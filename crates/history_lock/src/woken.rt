@@ -5,6 +5,16 @@ ghost use Rattle.history_lock.specs.Waking.{Wakes};
 /// At how many places calls wait.
 pub(crate) const PLACES: u32 = 128;
 
+/// Whom a call wakes.
+#[derive(Clone, Copy)]
+pub enum Whom {
+    /// All that its entry has made ready.
+    All,
+    /// All that its entry has made ready, but those that wait for the caller's own number: to these
+    /// the caller itself will see.
+    Others,
+}
+
 /// Whom an entry wakes. Calls wait at 128 places: one that waits for a number, at the place that is
 /// the rest of this number by 128. All that wait at a place are woken together.
 #[derive(Clone, Copy)]

@@ -142,6 +142,10 @@ impl Machine for Tally {
         Woken::nobody().with(0)
     }
 
+    fn woken_others(&self) -> Woken {
+        Woken::nobody().with(0)
+    }
+
     ghost use Rattle.std.proofs.Common.{arith};
 
     ghost begins = { Prim.omega arith };

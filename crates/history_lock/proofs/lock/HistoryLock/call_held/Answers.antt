@@ -1,5 +1,5 @@
 use Rattle.history_lock.proofs.Outcomes.{call_number, call_grows}
-use Rattle.history_lock.proofs.lock.HistoryLock.call.Goals as goal
+use Rattle.history_lock.proofs.lock.HistoryLock.call_held.Goals as goal
 
 pub returns-clause-number : goal.returns-clause-number
 returns-clause-number g c =
