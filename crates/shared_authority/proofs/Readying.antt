@@ -112,3 +112,12 @@ ready_or_woken Wakes list i n (Collect of) ready receivers gone =
     (λ (before : is_ready (past_of list) n of ≡ true). inl before)
     (λ (concerns : Concerns i of). inr (⊎_elim (λ (more : 0 < count_to of i.entry.outputs). receivers of more) (λ (departs : (is_depart i.entry.event ≡ true) × (i.entry.caller ≡ of)). subst Wakes departs.1 (gone departs.0)) concerns))
     (ready_by (past_of list) i n of (subst (λ (l : List Item). is_ready l n of ≡ true) (reverse-append list (i ∷ [])) ready))
+
+-- the same, but for those that wait for the item's own caller: the others are woken, where all are that wait for another connection to which the item sends something
+pub ready_own_or_woken : (Wakes : ℕ → Type 0) (list : List Item) (i : Item) (n : ℕ) (op : Op) → IsReady n op (list ++ i ∷ [])
+    → ((c : ℕ) → ¬ (c ≡ i.entry.caller) → 0 < count_to c i.entry.outputs → Wakes c) → IsReady n op list ⊎ ((awaited op ≡ i.entry.caller) ⊎ Wakes (awaited op))
+ready_own_or_woken Wakes list i n op ready receivers = ready_or_woken (λ (c : ℕ). (c ≡ i.entry.caller) ⊎ Wakes c) list i n op ready (λ c more. own_or_other c more (c == i.entry.caller) refl) (λ departs. inl refl)
+  where
+    own_or_other : (c : ℕ) → 0 < count_to c i.entry.outputs → (own : Bool) → (c == i.entry.caller) ≡ own → (c ≡ i.entry.caller) ⊎ Wakes c
+    own_or_other c more true own = inl (grind (arith, nat_tests))
+    own_or_other c more false other = inr (receivers c (let no : ¬ (c ≡ i.entry.caller) = grind (arith, nat_tests) in no) more)

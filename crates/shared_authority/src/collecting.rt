@@ -1,12 +1,16 @@
 // What is collected, and why nothing was.
+ghost use Rattle.std.specs.Prelude.{ℕ, IfOk, IfErr, IsSome};
 ghost use Rattle.history_lock.specs.Known.{Known};
+ghost use Rattle.history_lock.specs.Calls.{Answered, Refused};
 ghost use Rattle.authority_model.specs.declared.journal.Item.{Item};
 ghost use Rattle.authority_model.specs.declared.journal.Limits.{Limits};
-ghost use Rattle.shared_authority.specs.Journals.{Fits};
-ghost use Rattle.shared_authority.specs.Passes.{CollectIsRefused, Tells};
+ghost use Rattle.shared_authority.specs.Journals.{IsJournal, Fits, caller_of};
+ghost use Rattle.shared_authority.specs.Machines.{IsReady, Gives, Refuses, batch_in};
+ghost use Rattle.shared_authority.specs.Passes.{Collects, CollectIsRefused, Tells};
 
+use crate::operation::{Op, Refusal, Reply};
 use authority_core::Batch;
-use history_lock::EndCause;
+use history_lock::{CallRefused, EndCause};
 
 /// What was collected.
 #[derive(Drop)]
@@ -53,6 +57,37 @@ impl CollectRefused {
                 bytes: *bytes,
             },
             CollectRefused::NoMemory => EndCause::NoMemory,
+        }
+    }
+}
+
+/// What the lock answers to a Collect, as what was collected or why nothing was.
+pub(crate) fn collected_or_refused(
+    answer: Result<Reply, CallRefused<Op, Refusal>>,
+) -> Result<Collected, CollectRefused>
+    requires { IfOk answer (λ reply. IsSome (batch_in reply)) }
+    ensures ok { (v w : Known Item) (of : ℕ)
+        → IfOk answer (λ reply. Answered caller_of IsJournal IsReady Gives v (Op.Collect of) reply w)
+        → IfOk result (λ collected. Collects v of collected w) }
+    ensures err { (limits : Limits) (v w : Known Item) (of : ℕ)
+        → IfErr answer (λ refused. Refused caller_of IsJournal (λ n op list refusal. Refuses limits list refusal) (Fits limits) v (Op.Collect of) refused w)
+        → IfErr result (λ refused. CollectIsRefused limits v refused w) }
+{
+    match answer {
+        Ok(reply) => Ok(Collected::of_batch(reply.into_batch())),
+        Err(CallRefused::Ended { cause, op }) => {
+            drop(op);
+            Err(CollectRefused::Ended { cause })
+        }
+        Err(CallRefused::Machine { refusal, op }) => {
+            drop(op);
+            match refusal {
+                Refusal::JournalFull { entries, bytes } => Err(CollectRefused::JournalFull {
+                    entries,
+                    bytes,
+                }),
+                Refusal::NoMemory => Err(CollectRefused::NoMemory),
+            }
         }
     }
 }

@@ -5,7 +5,7 @@ ghost use Rattle.authority_laws.specs.Batches.{in_order};
 ghost use Rattle.shared_authority.specs.Handing.{op_of_step, refusal_of_step, op_of_load, refusal_of_load, refusal_of_collect};
 
 use crate::operation::{Op, Refusal, Reply};
-use crate::waking::woken_by;
+use crate::waking::{others_woken_by, woken_by};
 use authority_core::{Authority, CollectStepRefused, LoadStepRefused, StepRefused};
 use authority_model::Item;
 use history_lock::{Machine, Woken};
@@ -134,6 +134,13 @@ impl<L: LimitsName> Machine for Kept<L> {
         match self.authority.history().entries.as_slice().last() {
             None => Woken::nobody(),
             Some(entry) => woken_by(entry),
+        }
+    }
+
+    fn woken_others(&self) -> Woken {
+        match self.authority.history().entries.as_slice().last() {
+            None => Woken::nobody(),
+            Some(entry) => others_woken_by(entry),
         }
     }
 

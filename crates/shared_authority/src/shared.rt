@@ -11,13 +11,15 @@ ghost use Rattle.authority_laws.specs.Batches.{in_order};
 ghost use Rattle.shared_authority.specs.Journals.{IsJournal, Fits, caller_of};
 ghost use Rattle.shared_authority.specs.Passes.{Collects, CollectIsRefused, Submitted, SubmitIsRefused, SubmitLoadIsRefused};
 
-use crate::collecting::{CollectRefused, Collected};
+use crate::collecting::{CollectRefused, Collected, collected_or_refused};
 use crate::kept::{Kept, LimitsName};
 use crate::operation::{Op, Refusal};
 use crate::refused::{SubmitLoadRefused, SubmitRefused};
 use authority_core::Authority;
 use authority_model::{Event, Limits, Loaded};
-use history_lock::{AdmitRefused, CallRefused, EndCause, HistoryLock, Opened, Pass, TableName};
+use history_lock::{
+    AdmitRefused, CallRefused, EndCause, HistoryLock, Opened, Pass, TableName, Whom,
+};
 use pk_types::NoMemory;
 use std::alloc::Global;
 use std::sync::Wait;
@@ -95,7 +97,47 @@ impl<L: LimitsName, T: TableName> Shared<L, T> {
         ensures number { pass.new.number ≡ pass.old.number }
         ensures grows { IsPrefix pass.old.history pass.new.history }
     {
-        match self.lock.call(
+        self.step(rt, pass, moment, salt, event, Whom::All)
+    }
+
+    /// As `submit`, but a collector that waits for the outputs to the pass's own connection is not
+    /// woken: the caller sees to these itself, by `collect_if_ready`.
+    pub fn submit_waking_others<R: Wait>(
+        &self,
+        rt: &R,
+        pass: &mut Pass<Kept<L>, T>,
+        moment: u64,
+        salt: u128,
+        event: Event,
+    ) -> Result<u64, SubmitRefused>
+        requires event { IsStepped event }
+        requires moment { moment ≤ 2 ^ 62 }
+        ensures ok { IfOk result (λ place. Submitted pass.old (event_given pass.old.number moment salt event) place pass.new) }
+        ensures err { IfErr result (λ refused. SubmitIsRefused L.limits pass.old event refused pass.new) }
+        ensures number { pass.new.number ≡ pass.old.number }
+        ensures grows { IsPrefix pass.old.history pass.new.history }
+    {
+        self.step(rt, pass, moment, salt, event, Whom::Others)
+    }
+
+    /// As `submit`, but `whom` says which of the collectors are woken.
+    fn step<R: Wait>(
+        &self,
+        rt: &R,
+        pass: &mut Pass<Kept<L>, T>,
+        moment: u64,
+        salt: u128,
+        event: Event,
+        whom: Whom,
+    ) -> Result<u64, SubmitRefused>
+        requires event { IsStepped event }
+        requires moment { moment ≤ 2 ^ 62 }
+        ensures ok { IfOk result (λ place. Submitted pass.old (event_given pass.old.number moment salt event) place pass.new) }
+        ensures err { IfErr result (λ refused. SubmitIsRefused L.limits pass.old event refused pass.new) }
+        ensures number { pass.new.number ≡ pass.old.number }
+        ensures grows { IsPrefix pass.old.history pass.new.history }
+    {
+        match self.lock.call_waking(
             rt,
             pass,
             Op::Step {
@@ -103,6 +145,7 @@ impl<L: LimitsName, T: TableName> Shared<L, T> {
                 salt,
                 event,
             },
+            whom,
         ) {
             Ok(reply) => Ok(reply.into_place()),
             Err(CallRefused::Ended { cause, op }) => {
@@ -182,23 +225,38 @@ impl<L: LimitsName, T: TableName> Shared<L, T> {
         ensures number { pass.new.number ≡ pass.old.number }
         ensures grows { IsPrefix pass.old.history pass.new.history }
     {
-        match self.lock.call_when_ready(rt, pass, Op::Collect { of }) {
-            Ok(reply) => Ok(Collected::of_batch(reply.into_batch())),
-            Err(CallRefused::Ended { cause, op }) => {
-                drop(op);
-                Err(CollectRefused::Ended { cause })
-            }
-            Err(CallRefused::Machine { refusal, op }) => {
-                drop(op);
-                match refusal {
-                    Refusal::JournalFull { entries, bytes } => Err(CollectRefused::JournalFull {
-                        entries,
-                        bytes,
-                    }),
-                    Refusal::NoMemory => Err(CollectRefused::NoMemory),
-                }
-            }
+        collected_or_refused(self.lock.call_when_ready(rt, pass, Op::Collect { of }))
+    }
+
+    /// Is as `collect`, where there is an output to collect, or the connection has departed, or the
+    /// lock has ended. Elsewhere it is None, and the pass has learned nothing. It waits for the lock
+    /// alone.
+    ///
+    /// # Errors
+    /// As for `collect`.
+    pub fn collect_if_ready<R: Wait>(
+        &self,
+        rt: &R,
+        pass: &mut Pass<Kept<L>, T>,
+        of: u32,
+    ) -> Option<Result<Collected, CollectRefused>>
+        ensures none { result ≡ None → pass.new ≡ pass.old }
+        ensures ok { IfSome result (λ answer. IfOk answer (λ collected. Collects pass.old of collected pass.new)) }
+        ensures err { IfSome result (λ answer. IfErr answer (λ refused. CollectIsRefused L.limits pass.old refused pass.new)) }
+        ensures number { pass.new.number ≡ pass.old.number }
+        ensures grows { IsPrefix pass.old.history pass.new.history }
+    {
+        match self.lock.call_if_ready(rt, pass, Op::Collect { of }) {
+            None => None,
+            Some(answer) => Some(collected_or_refused(answer)),
         }
+    }
+
+    /// Waits until the pass with the number `by` has an output to the connection `of` to collect, or
+    /// the connection has departed, or the lock has ended. It has no clause, since none speaks of
+    /// waiting.
+    pub fn wait_for_outputs<R: Wait>(&self, rt: &R, by: u32, of: u32) {
+        self.lock.wait_until_ready(rt, by, &Op::Collect { of });
     }
 
     /// Ends the lock by a cause that fits what the pass knows. The first cause is kept, and the

@@ -31,3 +31,17 @@ pub fn woken_by(entry: &Entry) -> Woken
     };
     with_receivers(entry.outputs.as_slice(), departed)
 }
+
+/// Whom an entry wakes but for those that wait for its own connection: those that wait for another
+/// to which it sends something.
+pub fn others_woken_by(entry: &Entry) -> Woken
+    ensures { (c : ℕ) → ¬ (c ≡ entry.now.caller) → 0 < count_to c entry.now.outputs → Wakes result c }
+{
+    let mut others = Woken::nobody();
+    for output in entry.outputs.as_slice() {
+        if output.to != entry.caller {
+            others = others.with(output.to);
+        }
+    }
+    others
+}
