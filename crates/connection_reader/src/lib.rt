@@ -2,7 +2,7 @@
 //! that the connections share, between the beginning and the end of the connection.
 //!
 //! The messages come through a [`message_buffer::MessageBuffer`], which may hold the first of their
-//! bytes already. The writing half needs nothing from here: the journal is all that both share.
+//! bytes already. Both halves share the journal and the desk at which the answers are written.
 #![tactic(auto)]
 
 mod ends;

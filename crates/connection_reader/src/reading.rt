@@ -10,14 +10,15 @@ use crate::ends::{ReadStop, ReaderEnd, end_of};
 use crate::handing::hand_in;
 use authority_calls::event_of;
 use authority_model::Event;
+use connection_writer::{Begun, Desk, write_unless_taken};
 use dbus_values::{Next, awaited, next_message};
-use history_lock::{EndCause, Pass, TableName};
+use history_lock::{EndCause, Pass, TableName, Whom};
 use message_buffer::{Filled, MessageBuffer};
-use pk_outside::{Clock, Salt, Source};
+use pk_outside::{Clock, Salt, Sink, Source};
 use pk_types::NoMemory;
 use shared_authority::{Kept, LimitsName, Shared};
 use std::alloc::Global;
-use std::sync::Wait;
+use std::sync::{Mutex, Wait};
 
 /// Reads on behind less than a message, until as many bytes are there as are awaited.
 fn read_on<I: Source>(source: &mut I, buffer: &mut MessageBuffer) -> Option<ReadStop>
@@ -43,11 +44,36 @@ fn read_on<I: Source>(source: &mut I, buffer: &mut MessageBuffer) -> Option<Read
     }
 }
 
-/// Hands in what the next message asks, or reads on.
+/// Whom a message wakes. Where it is all that a read gave, the reading half sees to its answer. The
+/// writing half does where there is more to read first: so a client that sends many messages before
+/// it reads an answer never keeps the reading half from reading.
+fn whom_it_wakes(is_first: bool, behind: usize) -> Whom {
+    if is_first && behind == 0 {
+        Whom::Others
+    } else {
+        Whom::All
+    }
+}
+
+/// Sees to the answer of a message that did not wake the writing half.
+fn see_to_answer<L: LimitsName, T: TableName, R: Wait, O: Sink, B: Begun>(
+    rt: &R,
+    shared: &Shared<L, T>,
+    desk: &Mutex<Desk<'_, L, T, O, B>>,
+    whom: Whom,
+) {
+    match whom {
+        Whom::Others => write_unless_taken(rt, shared, desk),
+        Whom::All => {}
+    }
+}
+
+/// Hands in what the next message asks, or reads on. `is_first` says that nothing was handed in since
+/// the last read.
 ///
 /// # Errors
 /// As for `hand_in`.
-fn read_next<L: LimitsName, T: TableName, R: Wait, I: Source, C: Clock, S: Salt>(
+fn read_next<L: LimitsName, T: TableName, R: Wait, I: Source, C: Clock, S: Salt, O: Sink, B: Begun>(
     rt: &R,
     alloc: Global,
     shared: &Shared<L, T>,
@@ -56,6 +82,8 @@ fn read_next<L: LimitsName, T: TableName, R: Wait, I: Source, C: Clock, S: Salt>
     salt: &mut S,
     source: &mut I,
     buffer: &mut MessageBuffer,
+    is_first: &mut bool,
+    desk: &Mutex<Desk<'_, L, T, O, B>>,
 ) -> Result<Option<ReadStop>, EndCause>
     ensures reads { (uid : ℕ) (s : Hand) → IsUnderway uid s (hand pass.old (I.left source.old) (C.gave clock.old) (S.gave salt.old) buffer.old)
         → MatchResult result (λ _. IsUnderway uid s (hand pass.new (I.left source.new) (C.gave clock.new) (S.gave salt.new) buffer.new))
@@ -72,11 +100,17 @@ fn read_next<L: LimitsName, T: TableName, R: Wait, I: Source, C: Clock, S: Salt>
                 Err(NoMemory) => return Ok(Some(ReadStop::NoMemory)),
             };
             buffer.take(used);
-            hand_in(rt, shared, pass, clock, salt, event)?;
+            let whom = whom_it_wakes(*is_first, buffer.bytes().len());
+            *is_first = false;
+            hand_in(rt, shared, pass, clock, salt, event, whom)?;
+            see_to_answer(rt, shared, desk, whom);
             Ok(None)
         }
         Next::Bad { kind, at } => Ok(Some(ReadStop::BadBytes { kind, at })),
-        Next::Partial => Ok(read_on(source, buffer)),
+        Next::Partial => {
+            *is_first = true;
+            Ok(read_on(source, buffer))
+        }
     }
 }
 
@@ -84,7 +118,16 @@ fn read_next<L: LimitsName, T: TableName, R: Wait, I: Source, C: Clock, S: Salt>
 ///
 /// # Errors
 /// As for `hand_in`.
-fn read_messages<L: LimitsName, T: TableName, R: Wait, I: Source, C: Clock, S: Salt>(
+fn read_messages<
+    L: LimitsName,
+    T: TableName,
+    R: Wait,
+    I: Source,
+    C: Clock,
+    S: Salt,
+    O: Sink,
+    B: Begun,
+>(
     rt: &R,
     alloc: Global,
     shared: &Shared<L, T>,
@@ -93,6 +136,7 @@ fn read_messages<L: LimitsName, T: TableName, R: Wait, I: Source, C: Clock, S: S
     salt: &mut S,
     source: &mut I,
     buffer: &mut MessageBuffer,
+    desk: &Mutex<Desk<'_, L, T, O, B>>,
 ) -> Result<ReadStop, EndCause>
     ensures reads { (uid : ℕ) (s : Hand) → IsUnderway uid s (hand pass.old (I.left source.old) (C.gave clock.old) (S.gave salt.old) buffer.old)
         → MatchResult result (λ _. IsUnderway uid s (hand pass.new (I.left source.new) (C.gave clock.new) (S.gave salt.new) buffer.new))
@@ -102,8 +146,20 @@ fn read_messages<L: LimitsName, T: TableName, R: Wait, I: Source, C: Clock, S: S
     ensures later { I.faults source.old ≤ I.faults source.new }
     ensures same { I.origin source.new ≡ I.origin source.old }
 {
+    let mut is_first = true;
     for _turn in rt.forever() {
-        match read_next(rt, alloc, shared, pass, clock, salt, source, buffer)? {
+        match read_next(
+            rt,
+            alloc,
+            shared,
+            pass,
+            clock,
+            salt,
+            source,
+            buffer,
+            &mut is_first,
+            desk,
+        )? {
             None => {}
             Some(stop) => return Ok(stop),
         }
@@ -115,7 +171,7 @@ fn read_messages<L: LimitsName, T: TableName, R: Wait, I: Source, C: Clock, S: S
 ///
 /// # Errors
 /// As for `hand_in`.
-fn read_all<L: LimitsName, T: TableName, R: Wait, I: Source, C: Clock, S: Salt>(
+fn read_all<L: LimitsName, T: TableName, R: Wait, I: Source, C: Clock, S: Salt, O: Sink, B: Begun>(
     rt: &R,
     alloc: Global,
     shared: &Shared<L, T>,
@@ -125,6 +181,7 @@ fn read_all<L: LimitsName, T: TableName, R: Wait, I: Source, C: Clock, S: Salt>(
     salt: &mut S,
     source: &mut I,
     buffer: &mut MessageBuffer,
+    desk: &Mutex<Desk<'_, L, T, O, B>>,
 ) -> Result<ReadStop, EndCause>
     requires fresh { NoneBy caller_of pass.old.number pass.old.history }
     ensures reads { ReadsTo L.limits uid (hand pass.old (I.left source.old) (C.gave clock.old) (S.gave salt.old) buffer.old)
@@ -133,9 +190,17 @@ fn read_all<L: LimitsName, T: TableName, R: Wait, I: Source, C: Clock, S: Salt>(
     ensures later { I.faults source.old ≤ I.faults source.new }
     ensures same { I.origin source.new ≡ I.origin source.old }
 {
-    hand_in(rt, shared, pass, clock, salt, Event::Connect { uid })?;
-    let stop = read_messages(rt, alloc, shared, pass, clock, salt, source, buffer)?;
-    hand_in(rt, shared, pass, clock, salt, Event::Depart)?;
+    hand_in(
+        rt,
+        shared,
+        pass,
+        clock,
+        salt,
+        Event::Connect { uid },
+        Whom::All,
+    )?;
+    let stop = read_messages(rt, alloc, shared, pass, clock, salt, source, buffer, desk)?;
+    hand_in(rt, shared, pass, clock, salt, Event::Depart, Whom::All)?;
     Ok(stop)
 }
 
@@ -146,7 +211,8 @@ fn read_all<L: LimitsName, T: TableName, R: Wait, I: Source, C: Clock, S: Salt>(
 ///
 /// The messages are those of the bytes in the buffer and then of those that are read. The end of the
 /// connection is handed in whatever stopped the messages, so that a writing half that waits for it
-/// goes on. Where something is refused the lock is ended by the cause of the refusal, and nothing
+/// goes on. Where a message is all that a read gave, its answer is written at the desk at once, and the
+/// writing half is not woken for it. Where something is refused the lock is ended by the cause of the refusal, and nothing
 /// more is handed in.
 ///
 /// # Errors
@@ -154,7 +220,17 @@ fn read_all<L: LimitsName, T: TableName, R: Wait, I: Source, C: Clock, S: Salt>(
 /// message has a fault, with the first one and its place; `Truncated` exactly where the source ended
 /// inside a message; `ReadFault` exactly where the source counted a fault, which its last call did,
 /// and nothing was refused behind it; `NoMemory`, which may come in place of any other answer.
-pub fn read_connection<'a, L: LimitsName, T: TableName, R: Wait, I: Source, C: Clock, S: Salt>(
+pub fn read_connection<
+    'a,
+    L: LimitsName,
+    T: TableName,
+    R: Wait,
+    I: Source,
+    C: Clock,
+    S: Salt,
+    O: Sink,
+    B: Begun,
+>(
     rt: &'a R,
     alloc: Global,
     shared: &'a Shared<L, T>,
@@ -164,6 +240,7 @@ pub fn read_connection<'a, L: LimitsName, T: TableName, R: Wait, I: Source, C: C
     salt: &mut S,
     source: &mut I,
     buffer: &mut MessageBuffer,
+    desk: &Mutex<Desk<'_, L, T, O, B>>,
 ) -> ReaderEnd
     // The connection has no item yet.
     requires fresh { NoneBy caller_of pass.old.number pass.old.history }
@@ -176,5 +253,7 @@ pub fn read_connection<'a, L: LimitsName, T: TableName, R: Wait, I: Source, C: C
     // The source is from where it was.
     ensures same { I.origin source.new ≡ I.origin source.old }
 {
-    end_of(read_all(rt, alloc, shared, pass, uid, clock, salt, source, buffer))
+    end_of(read_all(
+        rt, alloc, shared, pass, uid, clock, salt, source, buffer, desk,
+    ))
 }

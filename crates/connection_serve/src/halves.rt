@@ -1,24 +1,121 @@
 // The two halves of a connection, beside each other.
-ghost use Rattle.std.specs.Prelude.{◌≡◌, ◌≢◌};
+ghost use Rattle.std.specs.Prelude.{◌≡◌, ◌≢◌, ℕ, Option as TheOption, List as TheList};
+ghost use Rattle.authority_model.specs.declared.journal.Item.{Item};
 ghost use Rattle.connection_reader.specs.Reading.{ReadFaults, ReadsTo, hand};
 ghost use Rattle.connection_serve.specs.Halves.{Meets};
-ghost use Rattle.connection_writer.specs.Writing.{WritesTo};
+ghost use Rattle.connection_writer.specs.Writing.{StandsAt, WritesTo};
 ghost use Rattle.history_lock.specs.Entries.{NoneBy};
+ghost use Rattle.history_lock.specs.Known.{Known};
 ghost use Rattle.shared_authority.specs.Journals.{caller_of};
 
 use crate::ends::{End, end_of};
-use connection_reader::{ReaderEnd, read_connection};
-use connection_writer::{WriterEnd, write_answers};
+use connection_reader::{Answers, ReaderEnd, read_connection};
+use connection_writer::{
+    Desk, First, Outbox, Writer, WriterEnd, write_as_it_comes, write_on, write_unless_taken,
+};
 use history_lock::{Pass, TableName};
 use message_buffer::MessageBuffer;
 use pk_outside::{Clock, Salt, Sink, Source};
 use shared_authority::{Kept, LimitsName, Shared};
 use std::alloc::Global;
-use std::sync::Wait;
+use std::marker::Brand;
+use std::sync::{Mutex, Wait};
 use std::thread::{Threads, join_mut};
 
-/// Runs the writer and the reader beside each other. Where no thread can be made the reader runs
-/// first.
+/// What writes the answers, under a lock that both halves share.
+struct SharedDesk<L: LimitsName, T: TableName, W: Outbox<L, T>, F: First<W>> {
+    desk: Mutex<Desk<L, T, W, F>>,
+}
+
+impl<L: LimitsName, T: TableName, W: Outbox<L, T>, F: First<W>> Answers<L, T>
+    for SharedDesk<L, T, W, F> {
+    fn answer<R: Wait>(&self, rt: &R, shared: &Shared<L, T>) {
+        write_unless_taken(rt, shared, &self.desk);
+    }
+}
+
+/// Reads the connection, and beside it writes what is sent to it as it comes. Where no thread can be
+/// made the reader runs first.
+fn beside_reader<
+    'a,
+    'b,
+    L: LimitsName + Send + Sync,
+    T: TableName + Send + Sync,
+    W: Outbox<L, T>,
+    F: First<W> + Send + Sync,
+    I: Source,
+    C: Clock,
+    S: Salt,
+    R: Threads + Wait + Sync,
+>(
+    rt: &'a R,
+    alloc: Global,
+    shared: &'a Shared<L, T>,
+    outbox: W,
+    by: u32,
+    of: u32,
+    pass: &'b mut Pass<Kept<L>, T>,
+    uid: u32,
+    clock: &'b mut C,
+    salt: &'b mut S,
+    source: &'b mut I,
+    buffer: &'b mut MessageBuffer,
+) -> (W, ReaderEnd)
+    requires first { F.is_first outbox }
+    requires fit { W.fit outbox }
+    requires since { W.since outbox outbox }
+    requires fresh { NoneBy caller_of pass.old.number pass.old.history }
+    ensures writes { let (now, read) = result in (first : W) × F.is_first first × W.since first now }
+    ensures reads { let (now, read) = result in ReadsTo L.limits uid (hand pass.old (I.left source.old) (C.gave clock.old) (S.gave salt.old) buffer.old)
+        (hand pass.new (I.left source.new) (C.gave clock.new) (S.gave salt.new) buffer.new) (I.ended source.new) read }
+    ensures faults { let (now, read) = result in ReadFaults I.left I.faults source.old source.new read }
+    ensures origin { I.origin source.new ≡ I.origin source.old }
+{
+    let desk: SharedDesk<L, T, W, F> = SharedDesk {
+        desk: Mutex::new(Desk::new(outbox)),
+    };
+    let ((), read) = join_mut(
+        rt,
+        &mut || { write_as_it_comes(rt, shared, by, of, &desk.desk) },
+        &mut || -> ReaderEnd
+            requires { NoneBy caller_of pass.now.number pass.now.history }
+            ensures reads { ReadsTo L.limits uid (hand pass.entry.now (I.left source.entry.now) (C.gave clock.entry.now) (S.gave salt.entry.now) buffer.entry.now)
+                (hand pass.exit.now (I.left source.exit.now) (C.gave clock.exit.now) (S.gave salt.exit.now) buffer.exit.now) (I.ended source.exit.now) result }
+            ensures faults { ReadFaults I.left I.faults source.entry.now source.exit.now result }
+            ensures origin { I.origin source.exit.now ≡ I.origin source.entry.now }
+        {
+            read_connection(
+                rt, alloc, shared, pass, uid, clock, salt, source, buffer, &desk,
+            )
+        },
+    );
+    let SharedDesk { desk } = desk;
+    (desk.into_inner().into_outbox(), read)
+}
+
+/// Writes on where writing has not ended yet.
+fn finish<L: LimitsName, T: TableName, O: Sink, R: Wait>(
+    rt: &R,
+    alloc: Global,
+    shared: &Shared<L, T>,
+    collector: &mut Pass<Kept<L>, T>,
+    of: u32,
+    sink: &mut O,
+    end: Option<WriterEnd>,
+) -> WriterEnd
+    requires { of ≢ 0 }
+    ensures { (v : Known Item) (held : TheOption (TheList ℕ)) (faults : ℕ)
+        → StandsAt L.limits of held faults v (O.held sink.old) (O.faults sink.old) collector.old end
+        → WritesTo L.limits of held faults v (O.held sink.new) (O.faults sink.new) collector.new result }
+{
+    match end {
+        Some(end) => end,
+        None => write_on(rt, alloc, shared, collector, of, sink),
+    }
+}
+
+/// Runs the writer and the reader beside each other. What was answered to a message that came alone
+/// the reader writes; all else the writer does.
 fn beside<
     'a,
     'b,
@@ -53,26 +150,26 @@ fn beside<
     ensures writes { let (wrote, read) = result in WritesTo L.limits of (O.held sink.old) (O.faults sink.old) collector.old (O.held sink.new) (O.faults sink.new) collector.new wrote }
     ensures origin { I.origin source.new ≡ I.origin source.old }
 {
-    let for_reader = alloc;
-    let for_writer = alloc;
-    join_mut(
-        rt,
-        &mut || -> WriterEnd
-            requires { (of ≢ 0) × NoneBy caller_of collector.now.number collector.now.history }
-            ensures writes { WritesTo L.limits of (O.held sink.entry.now) (O.faults sink.entry.now) collector.entry.now (O.held sink.exit.now) (O.faults sink.exit.now) collector.exit.now result }
-        { write_answers(rt, for_writer, shared, collector, of, sink) },
-        &mut || -> ReaderEnd
-            requires { NoneBy caller_of pass.now.number pass.now.history }
-            ensures reads { ReadsTo L.limits uid (hand pass.entry.now (I.left source.entry.now) (C.gave clock.entry.now) (S.gave salt.entry.now) buffer.entry.now)
-                (hand pass.exit.now (I.left source.exit.now) (C.gave clock.exit.now) (S.gave salt.exit.now) buffer.exit.now) (I.ended source.exit.now) result }
-            ensures faults { ReadFaults I.left I.faults source.entry.now source.exit.now result }
-            ensures origin { I.origin source.exit.now ≡ I.origin source.entry.now }
-        {
-            read_connection(
-                rt, for_reader, shared, pass, uid, clock, salt, source, buffer,
-            )
-        },
-    )
+    let by = collector.number();
+    let writer = Writer {
+        pass: collector,
+        sink,
+        alloc,
+        of,
+        end: None,
+    };
+    let (writer, read) = beside_reader::<L, T, Writer<L, T, O>, Brand, I, C, S, R>(
+        rt, alloc, shared, writer, by, of, pass, uid, clock, salt, source, buffer,
+    );
+    let Writer {
+        pass: collector,
+        sink,
+        alloc: _,
+        of: _,
+        end,
+    } = writer;
+    let wrote = finish(rt, alloc, shared, collector, of, sink, end);
+    (wrote, read)
 }
 
 /// Serves a connection whose messages have begun: a reader hands in what they ask, and a writer

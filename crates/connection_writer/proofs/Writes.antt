@@ -1,5 +1,6 @@
 -- What a Collect, a batch and a refusal make of what was written.
-use Rattle.std.proofs.Common.{◌≡◌, ◌≢◌, ℕ, suc, ◌+◌, ◌≤◌, Bool, true, false, List, [], ◌++◌, Option, ap, sym, ◌∙◌, subst, arith, length, take, drop}
+use Rattle.std.proofs.Common.{◌≡◌, ◌≢◌, ℕ, suc, ◌+◌, ◌≤◌, Bool, true, false, List, [], ◌++◌, Option, None, Some, refl, ap, sym, ◌∙◌, subst, arith, length, take, drop}
+use Rattle.std.specs.Option.{is_some}
 use Rattle.std.proofs.lemmas.List.{append-nil, take-append-drop, length-take-le}
 use mathlib.Core.List.{IsPrefix}
 use Rattle.authority_core.specs.declared.collecting.Batch.{Batch}
@@ -70,6 +71,11 @@ entered_texts P n v w w' s e =
     ∙ texts-append loads 1 old new
     ∙ ap (λ (l : List ℕ). l ++ texts loads (1 + length old) new) (texts_later w.history w'.history b n s.knows.journal (knows_entered w (collect_given b n) w' e).begins)
     ∙ ap (λ (k : ℕ). taken_texts (past_of w.history) b n ++ texts loads k new) count
+
+-- what is not there
+pub not_some : {A : Type 0} (o : Option A) → is_some o ≡ false → o ≡ None
+not_some None none = refl
+not_some (Some x) none = absurd (cc)
 
 take_prefix : {A : Type 0} → (k : ℕ) (l : List A) → IsPrefix (take k l) l
 take_prefix k l = (drop k l, take-append-drop k l)

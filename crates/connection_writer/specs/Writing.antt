@@ -1,5 +1,5 @@
 -- What the writing half of a connection has done. Its pass stood for v and stands for w, and n is the number of the connection.
-use Rattle.std.specs.Prelude.{◌≡◌, ℕ, ◌+◌, ◌<◌, ◌≤◌, zero, suc, Bool, true, false, List, [], ◌∷◌, ◌++◌, Option, Some, length}
+use Rattle.std.specs.Prelude.{◌≡◌, ℕ, ◌+◌, ◌<◌, ◌≤◌, zero, suc, Bool, true, false, List, [], ◌∷◌, ◌++◌, Option, None, Some, Result, Ok, Err, length}
 use Rattle.history_lock.specs.Known.{Known}
 use Rattle.authority_core.specs.declared.collecting.Batch.{Batch}
 use Rattle.authority_laws.specs.Batches.{AreSendable, collect_given, greatest_load, loads_in, taken}
@@ -46,6 +46,20 @@ WritesTo limits n held faults v held' faults' w writer.All = Writing true (Got h
 WritesTo limits n held faults v held' faults' w (writer.Ended cause) = Writing false (Got held held') n v w × Fits limits cause w.history w.made × (w.ended ≡ Some cause)
 WritesTo limits n held faults v held' faults' w writer.WriteFault = Writing false (GotFront held held') n v w × Rose faults faults'
 WritesTo limits n held faults v held' faults' w writer.NoMemory = Writing false (GotFront held held') n v w
+
+-- a pass that stands for nothing; no writing begins with it
+abbrev pub no_pass : Known Item
+no_pass = record { number = 0; history = []; made = 0; ended = None }
+
+-- how writing has ended, if it has
+abbrev pub end_in : {A : Type 0} → Result A WriterEnd → Option WriterEnd
+end_in (Ok more) = None
+end_in (Err end) = Some end
+
+-- Where writing stands: it goes on, and all that was taken was written; or it has ended so. The pass stood for v when it began, and the two counts are those of the sink's faults.
+abbrev pub StandsAt : Limits → ℕ → Option (List ℕ) → ℕ → Known Item → Option (List ℕ) → ℕ → Known Item → Option WriterEnd → Type 0
+StandsAt limits n held faults v held' faults' w None = Writing false (Got held held') n v w × (faults ≤ faults')
+StandsAt limits n held faults v held' faults' w (Some end) = WritesTo limits n held faults v held' faults' w end
 
 -- A batch can be written: its loads are there, its numbers fit 32 bits, and its messages are for a connection.
 pub record IsWritable (b : Batch) : Type 0 where

@@ -3,10 +3,12 @@
 #![tactic(auto)]
 
 mod batches;
+mod desk;
 mod ends;
 #[cfg(test)]
 mod tests;
 mod writer;
 
+pub use desk::{Begun, Desk, write_as_it_comes, write_unless_taken};
 pub use ends::WriterEnd;
-pub use writer::write_answers;
+pub use writer::{Writer, write_answers, write_on};

@@ -1,11 +1,10 @@
 // The loop of the writing half.
-ghost use Rattle.std.specs.Prelude.{◌≢◌, ◌≤◌, ℕ, false, Option as TheOption, List as TheList, IfNone, IfSome};
+ghost use Rattle.std.specs.Prelude.{◌≡◌, ◌≢◌, ◌≤◌, ℕ, None, Option as TheOption, List as TheList};
 ghost use Rattle.authority_model.specs.declared.journal.Item.{Item};
 ghost use Rattle.history_lock.specs.Entries.{NoneBy};
 ghost use Rattle.history_lock.specs.Known.{Known};
-ghost use Rattle.pk_outside.specs.Streams.{Got};
 ghost use Rattle.shared_authority.specs.Journals.{caller_of};
-ghost use Rattle.connection_writer.specs.Writing.{Writing, WritesTo};
+ghost use Rattle.connection_writer.specs.Writing.{StandsAt, WritesTo, end_in};
 
 use crate::batches::write_batch;
 use crate::ends::{WriteStop, WriterEnd};
@@ -15,9 +14,43 @@ use shared_authority::{Collected, Kept, LimitsName, Shared};
 use std::alloc::Global;
 use std::sync::Wait;
 
-/// Collects the next batch and writes it, or says how writing ends. From wherever it began: what
-/// was written before is written still.
+/// Collects the next batch and writes it, if one is there, and tells whether one was. From wherever
+/// it began: what was written before is written still.
+///
+/// # Errors
+/// How writing has ended.
 fn write_next<L: LimitsName, T: TableName, O: Sink, R: Wait>(
+    rt: &R,
+    alloc: Global,
+    shared: &Shared<L, T>,
+    pass: &mut Pass<Kept<L>, T>,
+    of: u32,
+    sink: &mut O,
+) -> Result<bool, WriterEnd>
+    requires { of ≢ 0 }
+    ensures stands { (v : Known Item) (held : TheOption (TheList ℕ)) (faults : ℕ)
+        → StandsAt L.limits of held faults v (O.held sink.old) (O.faults sink.old) pass.old None
+        → StandsAt L.limits of held faults v (O.held sink.new) (O.faults sink.new) pass.new (end_in result) }
+    ensures later { O.faults sink.old ≤ O.faults sink.new }
+{
+    match shared.collect_if_ready(rt, pass, of) {
+        None => Ok(false),
+        Some(Ok(Collected::Gone)) => Err(WriterEnd::All),
+        Some(Ok(Collected::Batch(batch))) => match write_batch(alloc, batch, sink) {
+            Ok(()) => Ok(true),
+            Err(WriteStop::Failed) => Err(WriterEnd::WriteFault),
+            Err(WriteStop::NoMemory) => Err(WriterEnd::NoMemory),
+        },
+        Some(Err(refused)) => {
+            let cause = shared.end(rt, pass, refused.cause());
+            Err(WriterEnd::Ended { cause })
+        }
+    }
+}
+
+/// Collects what is there and writes it, until nothing is left. Answers how writing has ended, if it
+/// has.
+fn write_ready<L: LimitsName, T: TableName, O: Sink, R: Wait>(
     rt: &R,
     alloc: Global,
     shared: &Shared<L, T>,
@@ -26,27 +59,47 @@ fn write_next<L: LimitsName, T: TableName, O: Sink, R: Wait>(
     sink: &mut O,
 ) -> Option<WriterEnd>
     requires { of ≢ 0 }
-    ensures goes_on { IfNone result ((v : Known Item) (held : TheOption (TheList ℕ))
-        → Writing false (Got held (O.held sink.old)) of v pass.old
-        → Writing false (Got held (O.held sink.new)) of v pass.new) }
-    ensures ends { IfSome result (λ end. (v : Known Item) (held : TheOption (TheList ℕ)) (faults : ℕ)
-        → faults ≤ O.faults sink.old
-        → Writing false (Got held (O.held sink.old)) of v pass.old
-        → WritesTo L.limits of held faults v (O.held sink.new) (O.faults sink.new) pass.new end) }
+    ensures stands { (v : Known Item) (held : TheOption (TheList ℕ)) (faults : ℕ)
+        → StandsAt L.limits of held faults v (O.held sink.old) (O.faults sink.old) pass.old None
+        → StandsAt L.limits of held faults v (O.held sink.new) (O.faults sink.new) pass.new result }
     ensures later { O.faults sink.old ≤ O.faults sink.new }
 {
-    match shared.collect(rt, pass, of) {
-        Ok(Collected::Gone) => Some(WriterEnd::All),
-        Ok(Collected::Batch(batch)) => match write_batch(alloc, batch, sink) {
-            Ok(()) => None,
-            Err(WriteStop::Failed) => Some(WriterEnd::WriteFault),
-            Err(WriteStop::NoMemory) => Some(WriterEnd::NoMemory),
-        },
-        Err(refused) => {
-            let cause = shared.end(rt, pass, refused.cause());
-            Some(WriterEnd::Ended { cause })
+    for _turn in rt.forever() {
+        match write_next(rt, alloc, shared, pass, of, sink) {
+            Ok(true) => {}
+            Ok(false) => return None,
+            Err(end) => return Some(end),
         }
     }
+    unreachable!()
+}
+
+/// Collects the outputs to a connection and writes their messages, as they come, until the
+/// connection has gone. From wherever it began: what was written before is written still.
+///
+/// The connection is not the loader, which is connection 0.
+pub fn write_on<L: LimitsName, T: TableName, O: Sink, R: Wait>(
+    rt: &R,
+    alloc: Global,
+    shared: &Shared<L, T>,
+    pass: &mut Pass<Kept<L>, T>,
+    of: u32,
+    sink: &mut O,
+) -> WriterEnd
+    requires { of ≢ 0 }
+    ensures stands { (v : Known Item) (held : TheOption (TheList ℕ)) (faults : ℕ)
+        → StandsAt L.limits of held faults v (O.held sink.old) (O.faults sink.old) pass.old None
+        → WritesTo L.limits of held faults v (O.held sink.new) (O.faults sink.new) pass.new result }
+    ensures later { O.faults sink.old ≤ O.faults sink.new }
+{
+    let by = pass.number();
+    for _turn in rt.forever() {
+        shared.wait_for_outputs(rt, by, of);
+        if let Some(end) = write_ready(rt, alloc, shared, pass, of, sink) {
+            return end;
+        }
+    }
+    unreachable!()
 }
 
 /// Collects the outputs to a connection and writes their messages, with the serials 1, 2, and so
@@ -67,10 +120,37 @@ pub fn write_answers<L: LimitsName, T: TableName, O: Sink, R: Wait>(
     ensures later { O.faults sink.old ≤ O.faults sink.new }
 {
     let _number = pass.number();
-    for _turn in rt.forever() {
-        if let Some(end) = write_next(rt, alloc, shared, pass, of, sink) {
-            return end;
+    write_on(rt, alloc, shared, pass, of, sink)
+}
+
+/// What writes the answers of the connection `of`: the collecting pass and the sink, and how writing
+/// has ended, if it has.
+#[derive(Drop)]
+pub struct Writer<'a, L: LimitsName, T: TableName, O: Sink> {
+    /// The pass that collects.
+    pub pass: &'a mut Pass<Kept<L>, T>,
+    /// Where the messages are written.
+    pub sink: &'a mut O,
+    /// Where memory is taken from.
+    pub alloc: Global,
+    /// The number of the connection.
+    pub of: u32,
+    /// How writing has ended.
+    pub end: Option<WriterEnd>,
+}
+
+impl<'a, L: LimitsName, T: TableName, O: Sink> Writer<'a, L, T, O> {
+    /// Collects what is there and writes it, unless writing has ended.
+    pub(crate) fn write_ready<R: Wait>(&mut self, rt: &R, shared: &Shared<L, T>)
+        requires { self.old.of ≢ 0 }
+        ensures stands { (v : Known Item) (held : TheOption (TheList ℕ)) (faults : ℕ)
+            → StandsAt L.limits self.old.of held faults v (O.held self.old.sink.now) (O.faults self.old.sink.now) self.old.pass.now self.old.end
+            → StandsAt L.limits self.old.of held faults v (O.held self.new.sink.now) (O.faults self.new.sink.now) self.new.pass.now self.new.end }
+        ensures names { (self.new.pass.ghost_name ≡ self.old.pass.ghost_name) × (self.new.sink.ghost_name ≡ self.old.sink.ghost_name) }
+        ensures of { self.new.of ≡ self.old.of }
+    {
+        if self.end.is_none() {
+            self.end = write_ready(rt, self.alloc, shared, self.pass, self.of, self.sink);
         }
     }
-    unreachable!()
 }

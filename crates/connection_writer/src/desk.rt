@@ -1,0 +1,133 @@
+// The desk at which the two threads of a connection write.
+ghost use Rattle.std.specs.Prelude.{◌≡◌, ◌≢◌};
+ghost use Rattle.connection_writer.specs.Writing.{StandsAt};
+
+use crate::writer::Writer;
+use history_lock::TableName;
+use pk_outside::Sink;
+use shared_authority::{LimitsName, Shared};
+use std::marker::{Brand, Model, PhantomData};
+use std::sync::{Mutex, Wait};
+
+/// How writing began. A program picks it, by a call of a function that is generic in the name.
+pub trait Begun {
+    ghost use Rattle.std.specs.Prelude.{ℕ, List, Option};
+    ghost use Rattle.authority_model.specs.declared.journal.Item.{Item};
+    ghost use Rattle.history_lock.specs.Known.{Known};
+
+    /// The connection whose answers are written.
+    ghost of: { ℕ };
+
+    /// What the collecting pass stood for.
+    ghost pass: { Known Item };
+
+    /// What the sink held.
+    ghost held: { Option (List ℕ) };
+
+    /// How often the sink had failed.
+    ghost faults: { ℕ };
+
+    /// Which pass it is.
+    ghost pass_name: { ℕ };
+
+    /// Which sink it is.
+    ghost sink_name: { ℕ };
+}
+
+impl Begun for Brand {
+    ghost use Rattle.std.specs.Prelude.{None};
+    ghost use Rattle.connection_writer.specs.Writing.{no_pass};
+
+    ghost of = { 0 };
+
+    ghost pass = { no_pass };
+
+    ghost held = { None };
+
+    ghost faults = { 0 };
+
+    ghost pass_name = { 0 };
+
+    ghost sink_name = { 0 };
+}
+
+/// A writer that the two threads of a connection share. Whoever comes to it writes what is there.
+#[derive(Drop)]
+pub struct Desk<'a, L: LimitsName, T: TableName, O: Sink, B: Begun> {
+    writer: Writer<'a, L, T, O>,
+    of: PhantomData<B>,
+}
+
+impl<'a, L: LimitsName, T: TableName, O: Sink, B: Begun> Model for Desk<'a, L, T, O, B> {
+    ghost use Rattle.std.specs.Prelude.{◌≡◌, ◌≢◌};
+    ghost use Rattle.connection_writer.specs.Writing.{StandsAt};
+
+    ghost Value = { Unit {0} };
+
+    ghost view = { λ d. tt };
+
+    ghost invariant = { λ d. (d.writer.of ≡ B.of)
+        × (B.of ≢ 0)
+        × (d.writer.pass.ghost_name ≡ B.pass_name)
+        × (d.writer.sink.ghost_name ≡ B.sink_name)
+        × StandsAt L.limits B.of B.held B.faults B.pass (O.held d.writer.sink.now) (O.faults d.writer.sink.now) d.writer.pass.now d.writer.end };
+}
+
+impl<'a, L: LimitsName, T: TableName, O: Sink, B: Begun> Desk<'a, L, T, O, B> {
+    /// A desk with this writer, which began so.
+    pub fn new(writer: Writer<'a, L, T, O>) -> Desk<'a, L, T, O, B>
+        requires of { (writer.of ≡ B.of) × (B.of ≢ 0) }
+        requires names { (writer.pass.ghost_name ≡ B.pass_name) × (writer.sink.ghost_name ≡ B.sink_name) }
+        requires stands { StandsAt L.limits B.of B.held B.faults B.pass (O.held writer.sink.now) (O.faults writer.sink.now) writer.pass.now writer.end }
+    {
+        Desk {
+            writer,
+            of: PhantomData,
+        }
+    }
+
+    /// Collects what is there and writes it, unless writing has ended. Tells whether it has.
+    fn write_ready<R: Wait>(&mut self, rt: &R, shared: &Shared<L, T>) -> bool {
+        self.writer.write_ready(rt, shared);
+        self.writer.end.is_some()
+    }
+
+    /// The writer, as it stands since it began.
+    pub fn into_writer(self) -> Writer<'a, L, T, O>
+        ensures of { result.of ≡ B.of }
+        ensures names { (result.pass.ghost_name ≡ B.pass_name) × (result.sink.ghost_name ≡ B.sink_name) }
+        ensures stands { StandsAt L.limits B.of B.held B.faults B.pass (O.held result.sink.now) (O.faults result.sink.now) result.pass.now result.end }
+    {
+        let Desk { writer, of: _ } = self;
+        writer
+    }
+}
+
+/// Writes what is there for the connection, unless its other thread is writing: that one looks again
+/// before it waits.
+pub fn write_unless_taken<L: LimitsName, T: TableName, O: Sink, B: Begun, R: Wait>(
+    rt: &R,
+    shared: &Shared<L, T>,
+    desk: &Mutex<Desk<'_, L, T, O, B>>,
+) {
+    if let Some(mut desk) = desk.try_lock() {
+        desk.write_ready(rt, shared);
+    }
+}
+
+/// Writes what is sent to the connection `of`, as it comes, until writing has ended. `by` is the
+/// number of the collecting pass.
+pub fn write_as_it_comes<L: LimitsName, T: TableName, O: Sink, B: Begun, R: Wait>(
+    rt: &R,
+    shared: &Shared<L, T>,
+    by: u32,
+    of: u32,
+    desk: &Mutex<Desk<'_, L, T, O, B>>,
+) {
+    for _turn in rt.forever() {
+        shared.wait_for_outputs(rt, by, of);
+        if desk.lock(rt).write_ready(rt, shared) {
+            return;
+        }
+    }
+}
