@@ -1,5 +1,6 @@
 pub mod Causes
-pub mod Meeting
-pub mod Greetings
-pub mod Serving
 pub mod Fresh
+pub mod Greetings
+pub mod Meeting
+pub mod Returning
+pub mod Serving

@@ -9,10 +9,8 @@ ghost use Rattle.history_lock.specs.Known.{Known};
 ghost use Rattle.shared_authority.specs.Journals.{caller_of};
 
 use crate::ends::{End, end_of};
-use connection_reader::{Answers, ReaderEnd, read_connection};
-use connection_writer::{
-    Desk, First, Outbox, Writer, WriterEnd, write_as_it_comes, write_on, write_unless_taken,
-};
+use connection_reader::{ReaderEnd, read_connection};
+use connection_writer::{Begun, Desk, Writer, WriterEnd, write_as_it_comes, write_on};
 use history_lock::{Pass, TableName};
 use message_buffer::MessageBuffer;
 use pk_outside::{Clock, Salt, Sink, Source};
@@ -22,27 +20,17 @@ use std::marker::Brand;
 use std::sync::{Mutex, Wait};
 use std::thread::{Threads, join_mut};
 
-/// What writes the answers, under a lock that both halves share.
-struct SharedDesk<L: LimitsName, T: TableName, W: Outbox<L, T>, F: First<W>> {
-    desk: Mutex<Desk<L, T, W, F>>,
-}
-
-impl<L: LimitsName, T: TableName, W: Outbox<L, T>, F: First<W>> Answers<L, T>
-    for SharedDesk<L, T, W, F> {
-    fn answer<R: Wait>(&self, rt: &R, shared: &Shared<L, T>) {
-        write_unless_taken(rt, shared, &self.desk);
-    }
-}
-
 /// Reads the connection, and beside it writes what is sent to it as it comes. Where no thread can be
-/// made the reader runs first.
-fn beside_reader<
+/// made the reader runs first. `of` is the number of the connection, and `by` that of the collecting
+/// pass.
+fn read_beside<
     'a,
     'b,
+    'w,
     L: LimitsName + Send + Sync,
     T: TableName + Send + Sync,
-    W: Outbox<L, T>,
-    F: First<W> + Send + Sync,
+    O: Sink,
+    B: Begun + Send + Sync,
     I: Source,
     C: Clock,
     S: Salt,
@@ -51,7 +39,7 @@ fn beside_reader<
     rt: &'a R,
     alloc: Global,
     shared: &'a Shared<L, T>,
-    outbox: W,
+    desk: &'a Mutex<Desk<'w, L, T, O, B>>,
     by: u32,
     of: u32,
     pass: &'b mut Pass<Kept<L>, T>,
@@ -60,23 +48,16 @@ fn beside_reader<
     salt: &'b mut S,
     source: &'b mut I,
     buffer: &'b mut MessageBuffer,
-) -> (W, ReaderEnd)
-    requires first { F.is_first outbox }
-    requires fit { W.fit outbox }
-    requires since { W.since outbox outbox }
+) -> ReaderEnd
     requires fresh { NoneBy caller_of pass.old.number pass.old.history }
-    ensures writes { let (now, read) = result in (first : W) × F.is_first first × W.since first now }
-    ensures reads { let (now, read) = result in ReadsTo L.limits uid (hand pass.old (I.left source.old) (C.gave clock.old) (S.gave salt.old) buffer.old)
-        (hand pass.new (I.left source.new) (C.gave clock.new) (S.gave salt.new) buffer.new) (I.ended source.new) read }
-    ensures faults { let (now, read) = result in ReadFaults I.left I.faults source.old source.new read }
+    ensures reads { ReadsTo L.limits uid (hand pass.old (I.left source.old) (C.gave clock.old) (S.gave salt.old) buffer.old)
+        (hand pass.new (I.left source.new) (C.gave clock.new) (S.gave salt.new) buffer.new) (I.ended source.new) result }
+    ensures faults { ReadFaults I.left I.faults source.old source.new result }
     ensures origin { I.origin source.new ≡ I.origin source.old }
 {
-    let desk: SharedDesk<L, T, W, F> = SharedDesk {
-        desk: Mutex::new(Desk::new(outbox)),
-    };
     let ((), read) = join_mut(
         rt,
-        &mut || { write_as_it_comes(rt, shared, by, of, &desk.desk) },
+        &mut || { write_as_it_comes(rt, shared, by, of, desk) },
         &mut || -> ReaderEnd
             requires { NoneBy caller_of pass.now.number pass.now.history }
             ensures reads { ReadsTo L.limits uid (hand pass.entry.now (I.left source.entry.now) (C.gave clock.entry.now) (S.gave salt.entry.now) buffer.entry.now)
@@ -85,12 +66,56 @@ fn beside_reader<
             ensures origin { I.origin source.exit.now ≡ I.origin source.entry.now }
         {
             read_connection(
-                rt, alloc, shared, pass, uid, clock, salt, source, buffer, &desk,
+                rt, alloc, shared, pass, uid, clock, salt, source, buffer, desk,
             )
         },
     );
-    let SharedDesk { desk } = desk;
-    (desk.into_inner().into_outbox(), read)
+    read
+}
+
+/// Reads the connection, and lends its writer to both threads meanwhile.
+fn read_with_writer<
+    'a,
+    'b,
+    'w,
+    L: LimitsName + Send + Sync,
+    T: TableName + Send + Sync,
+    O: Sink,
+    B: Begun + Send + Sync,
+    I: Source,
+    C: Clock,
+    S: Salt,
+    R: Threads + Wait + Sync,
+>(
+    rt: &'a R,
+    alloc: Global,
+    shared: &'a Shared<L, T>,
+    writer: Writer<'w, L, T, O>,
+    by: u32,
+    pass: &'b mut Pass<Kept<L>, T>,
+    uid: u32,
+    clock: &'b mut C,
+    salt: &'b mut S,
+    source: &'b mut I,
+    buffer: &'b mut MessageBuffer,
+) -> (Writer<'w, L, T, O>, ReaderEnd)
+    requires of { (writer.of ≡ B.of) × (B.of ≢ 0) }
+    requires names { (writer.pass.ghost_name ≡ B.pass_name) × (writer.sink.ghost_name ≡ B.sink_name) }
+    requires stands { StandsAt L.limits B.of B.held B.faults B.pass (O.held writer.sink.now) (O.faults writer.sink.now) writer.pass.now writer.end }
+    requires fresh { NoneBy caller_of pass.old.number pass.old.history }
+    ensures names { let (writer, read) = result in (writer.pass.ghost_name ≡ B.pass_name) × (writer.sink.ghost_name ≡ B.sink_name) }
+    ensures stands { let (writer, read) = result in StandsAt L.limits B.of B.held B.faults B.pass (O.held writer.sink.now) (O.faults writer.sink.now) writer.pass.now writer.end }
+    ensures reads { let (writer, read) = result in ReadsTo L.limits uid (hand pass.old (I.left source.old) (C.gave clock.old) (S.gave salt.old) buffer.old)
+        (hand pass.new (I.left source.new) (C.gave clock.new) (S.gave salt.new) buffer.new) (I.ended source.new) read }
+    ensures faults { let (writer, read) = result in ReadFaults I.left I.faults source.old source.new read }
+    ensures origin { I.origin source.new ≡ I.origin source.old }
+{
+    let of = writer.of;
+    let desk: Mutex<Desk<L, T, O, B>> = Mutex::new(Desk::new(writer));
+    let read = read_beside(
+        rt, alloc, shared, &desk, by, of, pass, uid, clock, salt, source, buffer,
+    );
+    (desk.into_inner().into_writer(), read)
 }
 
 /// Writes on where writing has not ended yet.
@@ -158,8 +183,8 @@ fn beside<
         of,
         end: None,
     };
-    let (writer, read) = beside_reader::<L, T, Writer<L, T, O>, Brand, I, C, S, R>(
-        rt, alloc, shared, writer, by, of, pass, uid, clock, salt, source, buffer,
+    let (writer, read) = read_with_writer::<L, T, O, Brand, I, C, S, R>(
+        rt, alloc, shared, writer, by, pass, uid, clock, salt, source, buffer,
     );
     let Writer {
         pass: collector,

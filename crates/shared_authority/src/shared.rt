@@ -97,31 +97,13 @@ impl<L: LimitsName, T: TableName> Shared<L, T> {
         ensures number { pass.new.number ≡ pass.old.number }
         ensures grows { IsPrefix pass.old.history pass.new.history }
     {
-        self.step(rt, pass, moment, salt, event, Whom::All)
+        self.submit_waking(rt, pass, moment, salt, event, Whom::All)
     }
 
-    /// As `submit`, but a collector that waits for the outputs to the pass's own connection is not
-    /// woken: the caller sees to these itself, by `collect_if_ready`.
-    pub fn submit_waking_others<R: Wait>(
-        &self,
-        rt: &R,
-        pass: &mut Pass<Kept<L>, T>,
-        moment: u64,
-        salt: u128,
-        event: Event,
-    ) -> Result<u64, SubmitRefused>
-        requires event { IsStepped event }
-        requires moment { moment ≤ 2 ^ 62 }
-        ensures ok { IfOk result (λ place. Submitted pass.old (event_given pass.old.number moment salt event) place pass.new) }
-        ensures err { IfErr result (λ refused. SubmitIsRefused L.limits pass.old event refused pass.new) }
-        ensures number { pass.new.number ≡ pass.old.number }
-        ensures grows { IsPrefix pass.old.history pass.new.history }
-    {
-        self.step(rt, pass, moment, salt, event, Whom::Others)
-    }
-
-    /// As `submit`, but `whom` says which of the collectors are woken.
-    fn step<R: Wait>(
+    /// As `submit`, and `whom` says which of the collectors are woken. With `Whom::Others` one that
+    /// waits for the outputs to the pass's own connection is not: the caller sees to these itself, by
+    /// `collect_if_ready`.
+    pub fn submit_waking<R: Wait>(
         &self,
         rt: &R,
         pass: &mut Pass<Kept<L>, T>,

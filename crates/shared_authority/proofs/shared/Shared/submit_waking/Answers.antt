@@ -1,5 +1,5 @@
 use Rattle.shared_authority.proofs.Entering.{step_placed, submitted}
-use Rattle.shared_authority.proofs.shared.Shared.step.Goals as goal
+use Rattle.shared_authority.proofs.shared.Shared.submit_waking.Goals as goal
 
 pub into_place-requires : goal.into_place-requires
 into_place-requires g c = let a = c.in-Ok.ensures.ok in step_placed c.args.pass.now.number c.args.moment c.args.salt c.args.event a.learned.grown.before a.entry c.in-Ok.reply a.given
