@@ -1,18 +1,19 @@
 // What is sent to a connection is written until it has gone.
-ghost use Rattle.std.specs.Prelude.{◌≡◌};
+ghost use Rattle.std.specs.Prelude.{◌≡◌, ◌≢◌};
 ghost use Rattle.authority_model.specs.Entering.{AreAllowed};
 ghost use Rattle.authority_model.specs.Given.{IsStepped};
+ghost use Rattle.connection_writer.specs.Writing.{StandsAt};
 
-use crate::{WriterEnd, write_answers};
+use crate::{Begun, Desk, Writer, WriterEnd, write_answers, write_as_it_comes, write_unless_taken};
 use authority_model::{Call, Event, Limits};
 use dbus_values::{Next, next_message};
 use history_lock::{Opened, Pass, TableName, open_table};
-use pk_outside::ByteSink;
+use pk_outside::{ByteSink, Sink};
 use shared_authority::{Kept, LimitsName, Shared};
 use std::alloc::Global;
 use std::marker::Brand;
 use std::process::Abort;
-use std::sync::Wait;
+use std::sync::{Mutex, Wait};
 use std::test::Fail;
 
 #[test]
@@ -49,6 +50,9 @@ fn write_each<L: LimitsName, T: TableName, R: Wait + Abort>(
     let Ok(mut collector) = shared.admit(rt, &mut zero) else {
         return Err(Fail::from("admits"));
     };
+    let Ok(mut other) = shared.admit(rt, &mut zero) else {
+        return Err(Fail::from("admits another"));
+    };
     enter(rt, &shared, &mut pass, Event::Connect { uid: 1000 })?;
     enter(rt, &shared, &mut pass, announce(8))?;
     enter(rt, &shared, &mut pass, announce(9))?;
@@ -72,7 +76,37 @@ fn write_each<L: LimitsName, T: TableName, R: Wait + Abort>(
         (3, 2, Some(9))
     );
     assert_eq!(rt; rest.len(), used);
+    let by = other.number();
+    let mut again = ByteSink::new(alloc, 4096, 100, Vec::new(alloc))?;
+    let writer = Writer {
+        pass: &mut other,
+        sink: &mut again,
+        alloc,
+        of: 1,
+        end: None,
+    };
+    let writer = write_at_desk::<L, T, ByteSink, Brand, R>(rt, &shared, writer, by);
+    assert_eq!(rt; writer.end, Some(WriterEnd::All));
+    assert_eq!(rt; again.bytes(), sink.bytes());
     Ok(())
+}
+
+/// The same at a desk, where another pass collects: all is there, so the first who comes writes it.
+fn write_at_desk<'w, L: LimitsName, T: TableName, O: Sink, B: Begun, R: Wait>(
+    rt: &R,
+    shared: &Shared<L, T>,
+    writer: Writer<'w, L, T, O>,
+    by: u32,
+) -> Writer<'w, L, T, O>
+    requires of { (writer.of ≡ B.of) × (B.of ≢ 0) }
+    requires names { (writer.pass.ghost_name ≡ B.pass_name) × (writer.sink.ghost_name ≡ B.sink_name) }
+    requires stands { StandsAt L.limits B.of B.held B.faults B.pass (O.held writer.sink.now) (O.faults writer.sink.now) writer.pass.now writer.end }
+{
+    let of = writer.of;
+    let desk: Mutex<Desk<L, T, O, B>> = Mutex::new(Desk::new(writer));
+    write_unless_taken(rt, shared, &desk);
+    write_as_it_comes(rt, shared, by, of, &desk);
+    desk.into_inner().into_writer()
 }
 
 /// An announcement of process 5, in the call with this serial.

@@ -24,6 +24,9 @@ impl Turns {
 
     /// Wakes these.
     pub fn wake(&self, woken: Woken) {
+        if woken.is_nobody() {
+            return;
+        }
         for (place, turn) in (0..PLACES).zip(&self.places) {
             if woken.has(place) {
                 turn.notify_all();

@@ -38,6 +38,11 @@ impl Woken {
         }
     }
 
+    /// Whether nobody is among them.
+    pub(crate) fn is_nobody(self) -> bool {
+        self.places == 0
+    }
+
     /// Whether those who wait at a place are among them.
     pub(crate) fn has(self, place: u32) -> bool {
         self.places >> (place % PLACES) & 1 == 1
