@@ -2,7 +2,7 @@ ghost use Rattle.std.specs.Prelude.{◌≡◌};
 
 use super::*;
 use history_lock::{
-    AdmitRefused, CallRefused, EndCause, HistoryLock, Opened, TableName, open_table,
+    AdmitRefused, CallRefused, EndCause, HistoryLock, Opened, TableName, Whom, open_table,
 };
 use std::alloc::Global;
 use std::marker::Brand;
@@ -87,6 +87,47 @@ fn wait_for_another<T: TableName + Send + Sync, R: Threads + Wait + Abort + Sync
         assert_eq!(rt; (entry.caller, entry.amount), (caller, amount));
     }
     Ok(())
+}
+
+#[test]
+fn calls_what_is_ready_alone(rt: HostRuntime) -> Result<(), Fail> {
+    let opened = open_table::<Tally>(rt.alloc())?;
+    call_what_is_ready::<Brand, _>(&rt, rt.alloc(), opened)
+}
+
+/// What is not ready is not called; once it is, nobody waits for it.
+fn call_what_is_ready<T: TableName, R: Wait + Abort>(
+    rt: &R,
+    alloc: Global,
+    opened: Opened<Tally>,
+) -> Result<(), Fail>
+    requires { opened ≡ T.table }
+{
+    let (lock, mut one) = HistoryLock::<Tally, T>::start(Tally::new(alloc), opened)?;
+    let early = lock.call_if_ready(rt, &mut one, after_one());
+    assert!(rt; early.is_none());
+    let added = lock.call_waking(rt, &mut one, Op::Add(5), Whom::Others);
+    assert_eq!(rt; added.ok(), Some(0));
+    lock.wait_until_ready(rt, one.number(), &after_one());
+    let late = lock
+        .call_if_ready(rt, &mut one, after_one())
+        .ok_or("is ready")?;
+    assert_eq!(rt; late.ok(), Some(1));
+    let tally = lock.close(one);
+    let amounts = [5, 7];
+    assert_eq!(rt; tally.entries().len(), amounts.len());
+    for (entry, amount) in tally.entries().iter().zip(amounts) {
+        assert_eq!(rt; entry.amount, amount);
+    }
+    Ok(())
+}
+
+/// An amount that waits for one entry.
+fn after_one() -> Op {
+    Op::AddAfter {
+        amount: 7,
+        entries: 1,
+    }
 }
 
 #[test]
