@@ -2,6 +2,8 @@
 ghost use Rattle.std.specs.Prelude.{◌≡◌, ◌≢◌};
 ghost use Rattle.authority_model.specs.Entering.{AreAllowed};
 ghost use Rattle.authority_model.specs.Given.{IsStepped};
+ghost use Rattle.history_lock.specs.Entries.{NoneBy};
+ghost use Rattle.shared_authority.specs.Journals.{caller_of};
 ghost use Rattle.connection_writer.specs.Writing.{StandsAt};
 
 use crate::{Begun, Desk, Writer, WriterEnd, write_answers, write_as_it_comes, write_unless_taken};
@@ -76,22 +78,35 @@ fn write_each<L: LimitsName, T: TableName, R: Wait + Abort>(
         (3, 2, Some(9))
     );
     assert_eq!(rt; rest.len(), used);
-    let by = other.number();
-    let mut again = ByteSink::new(alloc, 4096, 100, Vec::new(alloc))?;
+    write_again_at_desk(rt, alloc, &shared, &mut other, sink.bytes())
+}
+
+/// Another pass collects the same at a desk: all is there, so the first who comes writes it.
+fn write_again_at_desk<L: LimitsName, T: TableName, R: Wait + Abort>(
+    rt: &R,
+    alloc: Global,
+    shared: &Shared<L, T>,
+    collector: &mut Pass<Kept<L>, T>,
+    wanted: &[u8],
+) -> Result<(), Fail>
+    requires fresh { NoneBy caller_of collector.old.number collector.old.history }
+{
+    let by = collector.number();
+    let mut sink = ByteSink::new(alloc, 4096, 100, Vec::new(alloc))?;
     let writer = Writer {
-        pass: &mut other,
-        sink: &mut again,
+        pass: collector,
+        sink: &mut sink,
         alloc,
         of: 1,
         end: None,
     };
-    let writer = write_at_desk::<L, T, ByteSink, Brand, R>(rt, &shared, writer, by);
+    let writer = write_at_desk::<L, T, ByteSink, Brand, R>(rt, shared, writer, by);
     assert_eq!(rt; writer.end, Some(WriterEnd::All));
-    assert_eq!(rt; again.bytes(), sink.bytes());
+    assert_eq!(rt; sink.bytes(), wanted);
     Ok(())
 }
 
-/// The same at a desk, where another pass collects: all is there, so the first who comes writes it.
+/// Writes at a desk: first by one who passes by, and then by one who waits for what is left.
 fn write_at_desk<'w, L: LimitsName, T: TableName, O: Sink, B: Begun, R: Wait>(
     rt: &R,
     shared: &Shared<L, T>,

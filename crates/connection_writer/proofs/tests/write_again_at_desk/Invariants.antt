@@ -1,13 +1,13 @@
 -- How writing at the desk begins.
 use Rattle.std.proofs.Common.{Some}
-use Rattle.connection_writer.proofs.tests.write_each.Given as goal
+use Rattle.connection_writer.proofs.tests.write_again_at_desk.Given as goal
 
 abbrev pub ghosts-write_at_desk : goal.ghosts-write_at_desk
 ghosts-write_at_desk g a = record {
   of = a.writer.of;
   pass = a.writer.pass.now;
   held = Some a.writer.sink.now.bytes.items;
-  faults = 0;
+  faults = a.writer.sink.now.calls.faults;
   pass_name = a.writer.pass.ghost_name;
   sink_name = a.writer.sink.ghost_name;
 }
