@@ -2,12 +2,13 @@
 ghost use Rattle.std.specs.Prelude.{IfOk};
 ghost use Rattle.authority_model.specs.Given.{IsStepped};
 
+use crate::calls::{action_id, load, step, text};
 use authority_core::{Authority, Limits};
 use authority_model::{
     Action, ActionList, Answer, Call, Decision, Entry, ErrorCause, Event, Loaded, Message, Process,
     ProcessList, RuleSource,
 };
-use pk_types::{ActionId, Category, Implicit, List, NoMemory, Subject, Text};
+use pk_types::{Category, Implicit, List, NoMemory, Subject, Text};
 use std::alloc::Global;
 use std::test::Fail;
 
@@ -98,7 +99,7 @@ const DECISIONS: [Case; 6] = [
 ];
 
 fn action(alloc: Global, id: &str, any: Implicit) -> Result<Action, Fail> {
-    let id = ActionId::read(&Text::try_from_bytes(alloc, id.as_bytes())?)?;
+    let id = action_id(&text(alloc, id)?)?;
     Ok(Action::plain(alloc, id, any, any, any))
 }
 
@@ -137,7 +138,7 @@ fn some_load(alloc: Global) -> Result<Loaded, Fail> {
 fn check(alloc: Global, serial: u32, pid: u32, start: u64, id: &str) -> Result<Event, Fail>
     ensures stepped { IfOk result IsStepped }
 {
-    let action = Text::try_from_bytes(alloc, id.as_bytes())?;
+    let action = text(alloc, id)?;
     Ok(Event::Call {
         serial,
         quiet: false,
@@ -155,7 +156,7 @@ fn check(alloc: Global, serial: u32, pid: u32, start: u64, id: &str) -> Result<E
 fn started(alloc: Global) -> Result<Authority, Fail> {
     let loaded = some_load(alloc)?;
     let mut authority = Authority::start(alloc, LIMITS)?;
-    match authority.load(0, 5, loaded) {
+    match load(&mut authority, 5, loaded) {
         Ok(0) => Ok(authority),
         _ => Err(NoMemory)?,
     }
@@ -165,7 +166,7 @@ fn started(alloc: Global) -> Result<Authority, Fail> {
 fn answered(authority: &mut Authority, caller: u32, event: Event) -> Option<Told>
     requires stepped { IsStepped event }
 {
-    let place = authority.step(caller, 3, 0, event).ok()?;
+    let place = step(authority, caller, 3, event).ok()?;
     let entry = authority.entry(place)?;
     if entry.moment != 5 || authority.history().entries.len() as u64 != place + 1 {
         return None;

@@ -1,4 +1,5 @@
 // Journals that are full.
+use crate::calls::{load, step};
 use authority_core::{Authority, Limits, LoadStepRefused, StepRefused};
 use authority_model::{Event, Loaded, MAX_BYTES, MAX_ENTRIES};
 use std::test::Fail;
@@ -21,7 +22,7 @@ const ROWS: [Row; 8] = [
 
 /// Whether a connection of this uid is refused with these numbers, and comes back.
 fn is_refused(authority: &mut Authority, uid: u32, entries: u64, bytes: u64) -> bool {
-    match authority.step(1, 0, 0, Event::Connect { uid }) {
+    match step(authority, 1, 0, Event::Connect { uid }) {
         Err(
             StepRefused::JournalFull {
                 entries: n,
@@ -36,10 +37,7 @@ fn is_refused(authority: &mut Authority, uid: u32, entries: u64, bytes: u64) -> 
 /// Whether this many connections are entered.
 fn all_connect(authority: &mut Authority, count: u32) -> bool {
     for caller in 0..count {
-        if authority
-            .step(caller + 1, 0, 0, Event::Connect { uid: 1000 })
-            .is_err()
-        {
+        if step(authority, caller + 1, 0, Event::Connect { uid: 1000 }).is_err() {
             return false;
         }
     }
@@ -66,7 +64,7 @@ fn a_full_journal_refuses_an_event(rt: HostRuntime) -> Result<(), Fail> {
 
 /// Whether a load is refused with these numbers.
 fn is_load_refused(authority: &mut Authority, loaded: Loaded, entries: u64, bytes: u64) -> bool {
-    match authority.load(0, 0, loaded) {
+    match load(authority, 0, loaded) {
         Err(
             LoadStepRefused::JournalFull {
                 entries: n,
@@ -88,12 +86,8 @@ fn a_full_journal_refuses_a_load(rt: HostRuntime) -> Result<(), Fail> {
             bytes: MAX_BYTES,
         },
     )?;
-    assert!(rt; authority.load(0, 0, Loaded::empty(alloc)).is_ok());
-    assert!(rt;
-        authority
-            .step(1, 0, 0, Event::Connect { uid: 1000 })
-            .is_ok()
-    );
+    assert!(rt; load(&mut authority, 0, Loaded::empty(alloc)).is_ok());
+    assert!(rt; step(&mut authority, 1, 0, Event::Connect { uid: 1000 }).is_ok());
     assert!(rt; is_load_refused(&mut authority, Loaded::empty(alloc), 2, 128));
     assert!(rt; authority.history().loads.len() == 1);
     Ok(())

@@ -4,6 +4,8 @@
 #[cfg(test)]
 mod authority_core_tests;
 #[cfg(test)]
+mod calls;
+#[cfg(test)]
 mod collecting_tests;
 #[cfg(test)]
 mod full_tests;
