@@ -1,5 +1,5 @@
 // Runs of structures that begin, or end, right behind each other.
-ghost use Rattle.std.specs.Prelude.{◌≡◌, ◌<◌, ◌≤◌, ℕ, Bool, Some, IfOk, length, slice_index};
+ghost use Rattle.std.specs.Prelude.{◌≡◌, ◌+◌, ◌<◌, ◌≤◌, ℕ, Bool, true, Some, IfOk, length, slice_index};
 ghost use Rattle.dbus_values.specs.Reading.{Gives};
 ghost use Rattle.dbus_values.specs.Parts.{spot};
 ghost use Rattle.dbus_values.specs.Parts as part;
@@ -15,6 +15,36 @@ use crate::fault::{Fault, FaultKind};
 use crate::part::Part;
 use crate::walk::{Walk, next_in, next_short};
 
+/// Whether eight letters of a signature are this one. They are looked at together.
+#[inline(always)]
+fn are_eight(letter: u8, sig: &[u8], at: usize) -> bool
+    requires within { at + 8 ≤ length sig.now }
+    ensures same { result ≡ true → (k : ℕ) → k < 8 → slice_index sig.now (at + k) ≡ letter }
+{
+    (sig[at] == letter)
+        & (sig[at + 1] == letter)
+        & (sig[at + 2] == letter)
+        & (sig[at + 3] == letter)
+        & (sig[at + 4] == letter)
+        & (sig[at + 5] == letter)
+        & (sig[at + 6] == letter)
+        & (sig[at + 7] == letter)
+}
+
+/// How often a letter stands at the front of a signature, up to so many, counted in eights.
+#[inline(always)]
+fn eights(letter: u8, sig: &[u8], most: usize) -> usize
+    requires within { most ≤ length sig.now }
+    ensures few { result ≤ most }
+    ensures same { (k : ℕ) → k < result → slice_index sig.now k ≡ letter }
+{
+    let mut n = 0;
+    while most - n >= 8 && are_eight(letter, sig, n) {
+        n += 8;
+    }
+    n
+}
+
 /// How often a letter stands at the front of a signature, up to so many.
 #[inline(always)]
 fn times(letter: u8, sig: &[u8], most: usize) -> usize
@@ -22,12 +52,13 @@ fn times(letter: u8, sig: &[u8], most: usize) -> usize
     ensures within { result ≤ length sig.now }
     ensures same { (k : ℕ) → k < result → slice_index sig.now k ≡ letter }
 {
-    for i in 0..most.min(sig.len()) {
+    let most = most.min(sig.len());
+    for i in eights(letter, sig, most)..most {
         if sig[i] != letter {
             return i;
         }
     }
-    most.min(sig.len())
+    most
 }
 
 /// Opens the structures that begin here inside the innermost one, up to so many, and tells how
