@@ -1,8 +1,8 @@
 // Each public call once, with ample memory, and the answers of checks by root and by defaults.
-ghost use Rattle.std.specs.Prelude.{IfOk};
+ghost use Rattle.std.specs.Prelude.{◌<◌, IfOk};
 ghost use Rattle.authority_model.specs.Given.{IsStepped};
 
-use crate::calls::{action_id, load, step, text};
+use crate::calls::{action_id, decide, load, step, text};
 use authority_core::{Authority, Limits};
 use authority_model::{
     Action, ActionList, Answer, Call, Decision, Entry, ErrorCause, Event, Loaded, Message, Process,
@@ -181,32 +181,47 @@ fn is_told(authority: &mut Authority, alloc: Global, row: &Row) -> Result<bool, 
     Ok(answered(authority, caller, event) == Some(want))
 }
 
-#[test]
-fn checks_by_root_and_by_defaults(rt: HostRuntime) -> Result<(), Fail> {
-    let alloc = rt.alloc();
-    let mut authority = started(alloc)?;
-    for (caller, uid) in [(1, 1000), (2, 0)] {
-        assert!(rt;
-            answered(&mut authority, caller, Event::Connect { uid }) == Some(Told::Nothing)
-        );
-    }
-    for row in &ROWS {
-        assert!(rt; is_told(&mut authority, alloc, row)?, "{}", row.4);
-    }
+/// Whether a connection of this uid is entered, and told nothing.
+fn is_connected(authority: &mut Authority, caller: u32, uid: u32) -> bool {
+    answered(authority, caller, Event::Connect { uid }) == Some(Told::Nothing)
+}
+
+/// Whether connection 2 is told nothing of a reload that it asks for quietly.
+fn is_quiet(authority: &mut Authority) -> bool {
     let quiet = Event::Call {
         serial: 9,
         quiet: true,
         call: Call::Reload,
     };
-    assert!(rt; answered(&mut authority, 2, quiet) == Some(Told::Nothing));
+    answered(authority, 2, quiet) == Some(Told::Nothing)
+}
+
+/// The row at a place.
+fn row_at(place: usize) -> Row
+    requires { place < 10 }
+{
+    ROWS[place]
+}
+
+#[test]
+fn checks_by_root_and_by_defaults(rt: HostRuntime) -> Result<(), Fail> {
+    let alloc = rt.alloc();
+    let mut authority = started(alloc)?;
+    assert!(rt; is_connected(&mut authority, 1, 1000));
+    assert!(rt; is_connected(&mut authority, 2, 0));
+    for place in 0..10 {
+        let row = row_at(place);
+        assert!(rt; is_told(&mut authority, alloc, &row)?, "{}", row.4);
+    }
+    assert!(rt; is_quiet(&mut authority));
     Ok(())
 }
 
 /// Whether a decision is what its row says.
 fn is_decided(authority: &Authority, alloc: Global, row: &Case) -> Result<bool, Fail> {
     let (pid, start, id, want) = *row;
-    let id = Text::try_from_bytes(alloc, id.as_bytes())?;
-    Ok(authority.decide(0, &Subject::Process { pid, start }, &id) == want)
+    let id = text(alloc, id)?;
+    Ok(decide(authority, &Subject::Process { pid, start }, &id) == want)
 }
 
 /// Whether an entry is the second load, at moment 5, and one connection is told of it.
@@ -225,20 +240,28 @@ fn is_second_load(entry: Option<&Entry>) -> bool {
 fn a_later_load_is_told_and_decides(rt: HostRuntime) -> Result<(), Fail> {
     let alloc = rt.alloc();
     let mut authority = started(alloc)?;
-    assert!(rt; answered(&mut authority, 1, Event::Connect { uid: 1000 }) == Some(Told::Nothing));
-    assert!(rt; authority.load(0, 0, Loaded::empty(alloc)).ok() == Some(2));
+    assert!(rt; is_connected(&mut authority, 1, 1000));
+    assert!(rt; load(&mut authority, 0, Loaded::empty(alloc)).ok() == Some(2));
     assert!(rt; is_second_load(authority.entry(2)));
-    let id = Text::try_from_bytes(alloc, b"a.no")?;
+    let id = text(alloc, "a.no")?;
     let gone = Subject::Process { pid: 1, start: 1 };
-    assert!(rt; authority.decide(0, &gone, &id).is_none());
+    assert!(rt; decide(&authority, &gone, &id).is_none());
     Ok(())
+}
+
+/// The case at a place.
+fn case_at(place: usize) -> Case
+    requires { place < 6 }
+{
+    DECISIONS[place]
 }
 
 #[test]
 fn decisions_are_told(rt: HostRuntime) -> Result<(), Fail> {
     let authority = started(rt.alloc())?;
-    for row in &DECISIONS {
-        assert!(rt; is_decided(&authority, rt.alloc(), row)?, "{}", row.2);
+    for place in 0..6 {
+        let case = case_at(place);
+        assert!(rt; is_decided(&authority, rt.alloc(), &case)?, "{}", case.2);
     }
     Ok(())
 }

@@ -1,6 +1,7 @@
 // What callers collect of the outputs to a connection.
 ghost use Rattle.authority_model.specs.Given.{IsStepped};
 
+use crate::calls::{collect, load, ready, step};
 use authority_core::{Authority, CollectStepRefused, Limits};
 use authority_model::{
     Answer, Call, ErrorCause, Event, Loaded, MAX_BYTES, MAX_ENTRIES, Message, Output, OutputList,
@@ -62,7 +63,7 @@ enum Turn {
 fn steps(authority: &mut Authority, event: Event) -> bool
     requires stepped { IsStepped event }
 {
-    authority.step(1, 0, 0, event).is_ok()
+    step(authority, 1, 0, event).is_ok()
 }
 
 fn call(call: Call) -> Event
@@ -83,18 +84,15 @@ fn collects(
     loads: usize,
     told: [Option<Told>; 2],
 ) -> bool {
-    if !authority.ready(caller, 1) {
-        return false;
-    }
-    match authority.collect(caller, 1) {
-        Ok(batch) => {
+    match collect(authority, caller, 1) {
+        Some(Ok(batch)) => {
             batch.from == from
                 && batch.loads.len() == loads
                 && told_at(&batch.outputs, 0) == told[0]
                 && told_at(&batch.outputs, 1) == told[1]
                 && batch.outputs.len() <= 2
         }
-        Err(_) => false,
+        Some(Err(_)) | None => false,
     }
 }
 
@@ -109,8 +107,8 @@ fn happens(authority: &mut Authority, alloc: Global, turn: Turn) -> bool {
             }),
         ),
         Turn::Depart => steps(authority, Event::Depart),
-        Turn::Reload => authority.load(0, 0, Loaded::empty(alloc)).is_ok(),
-        Turn::Waits(caller) => !authority.ready(caller, 1),
+        Turn::Reload => load(authority, 0, Loaded::empty(alloc)).is_ok(),
+        Turn::Waits(caller) => !ready(authority, caller, 1),
         Turn::Collects(caller, from, loads, told) => {
             collects(authority, caller, from, loads, told)
         }
@@ -189,13 +187,16 @@ fn a_batch_has_the_loads_that_it_names(rt: HostRuntime) -> Result<(), Fail> {
 #[test]
 fn a_full_journal_refuses_a_collect(rt: HostRuntime) -> Result<(), Fail> {
     let mut authority = after(rt.alloc(), 3, &[Turn::Announce])?;
-    if authority.ready(2, 1) {
-        let full = CollectStepRefused::JournalFull {
-            entries: 3,
-            bytes: 256,
-        };
-        assert!(rt; authority.collect(2, 1).err() == Some(full));
-    }
-    assert!(rt; authority.ready(2, 1));
+    let full = CollectStepRefused::JournalFull {
+        entries: 3,
+        bytes: 256,
+    };
+    assert!(rt;
+        match collect(&mut authority, 2, 1) {
+            Some(Err(refused)) => refused == full,
+            _ => false,
+        }
+    );
+    assert!(rt; ready(&authority, 2, 1));
     Ok(())
 }

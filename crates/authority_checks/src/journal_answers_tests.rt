@@ -1,7 +1,8 @@
 // Each public call once, with ample memory. The expected replies are those of the reference manual
 // of polkit and of this project's own interface.
+use crate::calls::{answers, text};
 use authority_model::{Answer, Call, Entry, ErrorCause, Event, Loaded, Message, OutputList};
-use journal_answers::{load_outputs, outputs};
+use journal_answers::load_outputs;
 use journal_state::State;
 use pk_types::{List, NoMemory, Subject, Text};
 use std::alloc::Global;
@@ -26,7 +27,7 @@ fn connected(alloc: Global) -> Result<State, NoMemory> {
 fn outputs_of(alloc: Global, event: &Event) -> Result<OutputList, NoMemory> {
     let state = connected(alloc)?;
     let load = Loaded::empty(alloc);
-    outputs(alloc, &state, &load, 0, 3, 1, 0, event)
+    answers(alloc, &state, &load, 3, event)
 }
 
 fn is_refusal(outputs: &OutputList, wanted: ErrorCause) -> bool {
@@ -50,7 +51,7 @@ fn unknown_actions_are_refused(rt: HostRuntime) -> Result<(), Fail> {
         quiet: false,
         call: Call::Check {
             subject: Subject::Process { pid: 1, start: 1 },
-            action: Text::try_from_bytes(alloc, b"a.none")?,
+            action: text(alloc, "a.none")?,
             details: List::new(alloc),
             flags: 0,
             cancel: Text::new(alloc),

@@ -3,17 +3,14 @@
 ghost use Rattle.std.specs.Prelude.{◌≤◌, ◌^◌, IfOk};
 ghost use Rattle.authority_model.specs.Small.{IsShort};
 
+use crate::calls::{action_id, carry, text};
 use authority_model::{
     Action, Call, Cookie, Entry, Event, Loaded, Message, Output, OutputList, Process, ProcessId,
 };
 use journal_state::{OutputPlace, State};
-use pk_types::{ActionId, Identity, Implicit, List, Subject, Text};
+use pk_types::{Identity, Implicit, List, Subject, Text};
 use std::alloc::Global;
 use std::test::Fail;
-
-fn text(alloc: Global, bytes: &str) -> Result<Text, Fail> {
-    Ok(Text::try_from_bytes(alloc, bytes.as_bytes())?)
-}
 
 /// A process of uid 1000, and an action for which that user has to authenticate.
 fn load(alloc: Global) -> Result<Loaded, Fail>
@@ -22,7 +19,7 @@ fn load(alloc: Global) -> Result<Loaded, Fail>
     let mut loaded = Loaded::empty(alloc);
     loaded.policy.actions.try_push(Action::plain(
         alloc,
-        ActionId::read(&text(alloc, "a.keep")?)?,
+        action_id(&text(alloc, "a.keep")?)?,
         Implicit::AuthSelfKeep,
         Implicit::No,
         Implicit::No,
@@ -137,7 +134,7 @@ fn step(
             List::new(alloc)
         },
     };
-    state.after(loaded, place as u64, &entry, None)?;
+    carry(state, loaded, place as u64, &entry)?;
     Ok(())
 }
 
@@ -209,7 +206,7 @@ fn collect(state: &mut State, loaded: &Loaded, alloc: Global, place: u64) -> Res
         event: Event::Collect { of: 1 },
         outputs: List::new(alloc),
     };
-    state.after(loaded, place, &entry, None)?;
+    carry(state, loaded, place, &entry)?;
     Ok(())
 }
 
