@@ -1,34 +1,72 @@
 // What is handed in, and what a refusal does.
-ghost use Rattle.authority_model.specs.Given.{IsStepped};
+ghost use Rattle.std.specs.Prelude.{◌≤◌, ◌^◌, IfOk, IfErr};
+ghost use Rattle.authority_model.specs.Given.{IsStepped, event_given};
+ghost use Rattle.shared_authority.specs.Passes.{Submitted, SubmitIsRefused};
 ghost use Rattle.connection_reader.specs.Hands.{HandsIn};
 
 use authority_model::Event;
-use history_lock::{EndCause, Pass, TableName, Whom};
-use pk_outside::{Clock, Salt};
-use shared_authority::{Kept, LimitsName, Shared};
-use std::sync::Wait;
+use connection_writer::{Begun, Desk, submit_at_desk};
+use history_lock::{EndCause, Pass, TableName};
+use pk_outside::{Clock, Salt, Sink};
+use shared_authority::{Kept, LimitsName, Shared, SubmitRefused};
+use std::sync::{Mutex, Wait};
 
-/// Hands in an event of the pass's connection, with one reading of the clock and one random word.
-/// Those whom it wakes are all for whom something was sent, or all but the connection itself.
+/// Who writes what an entry of the connection's own sends to it.
+#[derive(Clone, Copy)]
+pub enum Answerer {
+    /// The reading half, at once. The writing half is not woken for it.
+    Reader,
+    /// The writing half, which the entry wakes.
+    Writer,
+}
+
+/// Adds the entry of an event of the pass's connection, and has its answer written.
+///
+/// # Errors
+/// As for `Shared::submit`.
+fn submit<L: LimitsName, T: TableName, R: Wait, O: Sink, B: Begun>(
+    rt: &R,
+    shared: &Shared<L, T>,
+    pass: &mut Pass<Kept<L>, T>,
+    moment: u64,
+    word: u128,
+    event: Event,
+    answerer: Answerer,
+    desk: &Mutex<Desk<'_, L, T, O, B>>,
+) -> Result<u64, SubmitRefused>
+    requires event { IsStepped event }
+    requires moment { moment ≤ 2 ^ 62 }
+    ensures ok { IfOk result (λ place. Submitted pass.old (event_given pass.old.number moment word event) place pass.new) }
+    ensures err { IfErr result (λ refused. SubmitIsRefused L.limits pass.old event refused pass.new) }
+{
+    match answerer {
+        Answerer::Reader => submit_at_desk(rt, shared, desk, pass, moment, word, event),
+        Answerer::Writer => shared.submit(rt, pass, moment, word, event),
+    }
+}
+
+/// Hands in an event of the pass's connection, with one reading of the clock and one random word, and
+/// has its answer written at the desk.
 ///
 /// # Errors
 /// Where the event is refused the lock is ended by the cause of the refusal. The answer is the kept
 /// cause, which the pass then knows.
-pub fn hand_in<L: LimitsName, T: TableName, R: Wait, C: Clock, S: Salt>(
+pub fn hand_in<L: LimitsName, T: TableName, R: Wait, C: Clock, S: Salt, O: Sink, B: Begun>(
     rt: &R,
     shared: &Shared<L, T>,
     pass: &mut Pass<Kept<L>, T>,
     clock: &mut C,
     salt: &mut S,
     event: Event,
-    whom: Whom,
+    answerer: Answerer,
+    desk: &Mutex<Desk<'_, L, T, O, B>>,
 ) -> Result<(), EndCause>
     requires stepped { IsStepped event }
     ensures hands { HandsIn L.limits event pass.old pass.new (C.gave clock.old) (C.gave clock.new) (S.gave salt.old) (S.gave salt.new) result }
 {
     let moment = clock.now();
     let word = salt.word();
-    match shared.submit_waking(rt, pass, moment, word, event, whom) {
+    match submit(rt, shared, pass, moment, word, event, answerer, desk) {
         Ok(_) => Ok(()),
         Err(refused) => Err(shared.end(rt, pass, refused.cause())),
     }

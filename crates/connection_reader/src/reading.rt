@@ -7,12 +7,12 @@ ghost use Rattle.connection_reader.specs.Reading.{Hand, IsRefused, IsUnderway, R
 ghost use Rattle.connection_reader.specs.Stops.{end_of, IsStoppedBy, ReadsOn, Stops, StopFaults, TurnFaults};
 
 use crate::ends::{ReadStop, ReaderEnd, end_of};
-use crate::handing::hand_in;
+use crate::handing::{Answerer, hand_in};
 use authority_calls::event_of;
 use authority_model::Event;
-use connection_writer::{Begun, Desk, write_unless_taken};
+use connection_writer::{Begun, Desk};
 use dbus_values::{Next, awaited, next_message};
-use history_lock::{EndCause, Pass, TableName, Whom};
+use history_lock::{EndCause, Pass, TableName};
 use message_buffer::{Filled, MessageBuffer};
 use pk_outside::{Clock, Salt, Sink, Source};
 use pk_types::NoMemory;
@@ -44,32 +44,24 @@ fn read_on<I: Source>(source: &mut I, buffer: &mut MessageBuffer) -> Option<Read
     }
 }
 
-/// Whom a message wakes. Where it is all that a read gave, the reading half sees to its answer. The
-/// writing half does where there is more to read first: so a client that sends many messages before
-/// it reads an answer never keeps the reading half from reading.
-fn whom_it_wakes(is_first: bool, behind: usize) -> Whom {
-    if is_first && behind == 0 {
-        Whom::Others
-    } else {
-        Whom::All
+/// Whether something was handed in since the last read.
+#[derive(Clone, Copy)]
+enum SinceRead {
+    Nothing,
+    Something,
+}
+
+/// Who answers a message with so many bytes behind it. Where it is all that a read gave, the reading
+/// half does. The writing half does where there is more to read first: so a client that sends many
+/// messages before it reads an answer never keeps the reading half from reading.
+fn answerer(since_read: SinceRead, behind: usize) -> Answerer {
+    match since_read {
+        SinceRead::Nothing if behind == 0 => Answerer::Reader,
+        _ => Answerer::Writer,
     }
 }
 
-/// Sees to the answer of a message that did not wake the writing half.
-fn see_to_answer<L: LimitsName, T: TableName, R: Wait, O: Sink, B: Begun>(
-    rt: &R,
-    shared: &Shared<L, T>,
-    desk: &Mutex<Desk<'_, L, T, O, B>>,
-    whom: Whom,
-) {
-    match whom {
-        Whom::Others => write_unless_taken(rt, shared, desk),
-        Whom::All => {}
-    }
-}
-
-/// Hands in what the next message asks, or reads on. `is_first` says that nothing was handed in since
-/// the last read.
+/// Hands in what the next message asks, or reads on.
 ///
 /// # Errors
 /// As for `hand_in`.
@@ -82,7 +74,7 @@ fn read_next<L: LimitsName, T: TableName, R: Wait, I: Source, C: Clock, S: Salt,
     salt: &mut S,
     source: &mut I,
     buffer: &mut MessageBuffer,
-    is_first: &mut bool,
+    since_read: &mut SinceRead,
     desk: &Mutex<Desk<'_, L, T, O, B>>,
 ) -> Result<Option<ReadStop>, EndCause>
     ensures reads { (uid : ℕ) (s : Hand) → IsUnderway uid s (hand pass.old (I.left source.old) (C.gave clock.old) (S.gave salt.old) buffer.old)
@@ -100,15 +92,14 @@ fn read_next<L: LimitsName, T: TableName, R: Wait, I: Source, C: Clock, S: Salt,
                 Err(NoMemory) => return Ok(Some(ReadStop::NoMemory)),
             };
             buffer.take(used);
-            let whom = whom_it_wakes(*is_first, buffer.bytes().len());
-            *is_first = false;
-            hand_in(rt, shared, pass, clock, salt, event, whom)?;
-            see_to_answer(rt, shared, desk, whom);
+            let by = answerer(*since_read, buffer.bytes().len());
+            *since_read = SinceRead::Something;
+            hand_in(rt, shared, pass, clock, salt, event, by, desk)?;
             Ok(None)
         }
         Next::Bad { kind, at } => Ok(Some(ReadStop::BadBytes { kind, at })),
         Next::Partial => {
-            *is_first = true;
+            *since_read = SinceRead::Nothing;
             Ok(read_on(source, buffer))
         }
     }
@@ -146,7 +137,7 @@ fn read_messages<
     ensures later { I.faults source.old ≤ I.faults source.new }
     ensures same { I.origin source.new ≡ I.origin source.old }
 {
-    let mut is_first = true;
+    let mut since_read = SinceRead::Nothing;
     for _turn in rt.forever() {
         match read_next(
             rt,
@@ -157,7 +148,7 @@ fn read_messages<
             salt,
             source,
             buffer,
-            &mut is_first,
+            &mut since_read,
             desk,
         )? {
             None => {}
@@ -190,17 +181,11 @@ fn read_all<L: LimitsName, T: TableName, R: Wait, I: Source, C: Clock, S: Salt, 
     ensures later { I.faults source.old ≤ I.faults source.new }
     ensures same { I.origin source.new ≡ I.origin source.old }
 {
-    hand_in(
-        rt,
-        shared,
-        pass,
-        clock,
-        salt,
-        Event::Connect { uid },
-        Whom::All,
-    )?;
+    let by = Answerer::Writer;
+    let connect = Event::Connect { uid };
+    hand_in(rt, shared, pass, clock, salt, connect, by, desk)?;
     let stop = read_messages(rt, alloc, shared, pass, clock, salt, source, buffer, desk)?;
-    hand_in(rt, shared, pass, clock, salt, Event::Depart, Whom::All)?;
+    hand_in(rt, shared, pass, clock, salt, Event::Depart, by, desk)?;
     Ok(stop)
 }
 
@@ -212,8 +197,8 @@ fn read_all<L: LimitsName, T: TableName, R: Wait, I: Source, C: Clock, S: Salt, 
 /// The messages are those of the bytes in the buffer and then of those that are read. The end of the
 /// connection is handed in whatever stopped the messages, so that a writing half that waits for it
 /// goes on. Where a message is all that a read gave, its answer is written at the desk at once, and the
-/// writing half is not woken for it. Where something is refused the lock is ended by the cause of the refusal, and nothing
-/// more is handed in.
+/// writing half is not woken for it. Where something is refused the lock is ended by the cause of the
+/// refusal, and nothing more is handed in.
 ///
 /// # Errors
 /// `Ended` with the kept cause, only where something was refused; `BadBytes` exactly where the next

@@ -1,3 +1,4 @@
+pub mod Collecting
 pub mod Texts
-pub mod Written
 pub mod Writes
+pub mod Written

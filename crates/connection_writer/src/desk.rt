@@ -1,11 +1,14 @@
 // The desk at which the two threads of a connection write.
-ghost use Rattle.std.specs.Prelude.{◌≡◌, ◌≢◌};
+ghost use Rattle.std.specs.Prelude.{◌≡◌, ◌≢◌, ◌≤◌, ◌^◌, IfOk, IfErr};
+ghost use Rattle.authority_model.specs.Given.{IsStepped, event_given};
+ghost use Rattle.shared_authority.specs.Passes.{Submitted, SubmitIsRefused};
 ghost use Rattle.connection_writer.specs.Writing.{StandsAt};
 
 use crate::writer::Writer;
-use history_lock::TableName;
+use authority_model::Event;
+use history_lock::{Pass, TableName};
 use pk_outside::Sink;
-use shared_authority::{LimitsName, Shared};
+use shared_authority::{Kept, LimitsName, Shared, SubmitRefused};
 use std::marker::{Brand, Model, PhantomData};
 use std::sync::{Mutex, Wait};
 
@@ -92,6 +95,25 @@ impl<'a, L: LimitsName, T: TableName, O: Sink, B: Begun> Desk<'a, L, T, O, B> {
         self.writer.end.is_some()
     }
 
+    /// Adds the entry of an event of the connection's own pass, and writes what is sent to the
+    /// connection then, unless writing has ended.
+    fn submit<R: Wait>(
+        &mut self,
+        rt: &R,
+        shared: &Shared<L, T>,
+        pass: &mut Pass<Kept<L>, T>,
+        moment: u64,
+        salt: u128,
+        event: Event,
+    ) -> Result<u64, SubmitRefused>
+        requires event { IsStepped event }
+        requires moment { moment ≤ 2 ^ 62 }
+        ensures ok { IfOk result (λ place. Submitted pass.old (event_given pass.old.number moment salt event) place pass.new) }
+        ensures err { IfErr result (λ refused. SubmitIsRefused L.limits pass.old event refused pass.new) }
+    {
+        self.writer.submit(rt, shared, pass, moment, salt, event)
+    }
+
     /// The writer, as it stands since it began.
     pub fn into_writer(self) -> Writer<'a, L, T, O>
         ensures of { result.of ≡ B.of }
@@ -103,15 +125,29 @@ impl<'a, L: LimitsName, T: TableName, O: Sink, B: Begun> Desk<'a, L, T, O, B> {
     }
 }
 
-/// Writes what is there for the connection, unless its other thread is writing: that one looks again
-/// before it waits.
-pub fn write_unless_taken<L: LimitsName, T: TableName, O: Sink, B: Begun, R: Wait>(
+/// Adds the entry of an event of the connection's own pass, as `Shared::submit` does, and writes
+/// what is sent to the connection then. Where its other thread is at the desk the entry alone is
+/// added, and wakes that thread, which writes.
+///
+/// # Errors
+/// As for `Shared::submit`.
+pub fn submit_at_desk<L: LimitsName, T: TableName, O: Sink, B: Begun, R: Wait>(
     rt: &R,
     shared: &Shared<L, T>,
     desk: &Mutex<Desk<'_, L, T, O, B>>,
-) {
-    if let Some(mut desk) = desk.try_lock() {
-        desk.write_ready(rt, shared);
+    pass: &mut Pass<Kept<L>, T>,
+    moment: u64,
+    salt: u128,
+    event: Event,
+) -> Result<u64, SubmitRefused>
+    requires event { IsStepped event }
+    requires moment { moment ≤ 2 ^ 62 }
+    ensures ok { IfOk result (λ place. Submitted pass.old (event_given pass.old.number moment salt event) place pass.new) }
+    ensures err { IfErr result (λ refused. SubmitIsRefused L.limits pass.old event refused pass.new) }
+{
+    match desk.try_lock() {
+        Some(mut desk) => desk.submit(rt, shared, pass, moment, salt, event),
+        None => shared.submit(rt, pass, moment, salt, event),
     }
 }
 

@@ -9,6 +9,6 @@ mod ends;
 mod tests;
 mod writer;
 
-pub use desk::{Begun, Desk, write_as_it_comes, write_unless_taken};
+pub use desk::{Begun, Desk, submit_at_desk, write_as_it_comes};
 pub use ends::WriterEnd;
 pub use writer::{Writer, write_answers, write_on};

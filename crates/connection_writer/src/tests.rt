@@ -6,7 +6,7 @@ ghost use Rattle.history_lock.specs.Entries.{NoneBy};
 ghost use Rattle.shared_authority.specs.Journals.{caller_of};
 ghost use Rattle.connection_writer.specs.Writing.{StandsAt};
 
-use crate::{Begun, Desk, Writer, WriterEnd, write_answers, write_as_it_comes, write_unless_taken};
+use crate::{Begun, Desk, Writer, WriterEnd, submit_at_desk, write_answers, write_as_it_comes};
 use authority_model::{Call, Event, Limits};
 use dbus_values::{Next, next_message};
 use history_lock::{Opened, Pass, TableName, open_table};
@@ -52,8 +52,9 @@ fn write_each<L: LimitsName, T: TableName, R: Wait + Abort>(
     let Ok(mut collector) = shared.admit(rt, &mut zero) else {
         return Err(Fail::from("admits"));
     };
-    let Ok(mut other) = shared.admit(rt, &mut zero) else {
-        return Err(Fail::from("admits another"));
+    let mut other = shared.admit(rt, &mut zero).ok().ok_or("admits another")?;
+    let Ok(mut other_collector) = shared.admit(rt, &mut zero) else {
+        return Err(Fail::from("admits another collector"));
     };
     enter(rt, &shared, &mut pass, Event::Connect { uid: 1000 })?;
     enter(rt, &shared, &mut pass, announce(8))?;
@@ -78,18 +79,28 @@ fn write_each<L: LimitsName, T: TableName, R: Wait + Abort>(
         (3, 2, Some(9))
     );
     assert_eq!(rt; rest.len(), used);
-    write_again_at_desk(rt, alloc, &shared, &mut other, sink.bytes())
+    enter(rt, &shared, &mut other, Event::Connect { uid: 1000 })?;
+    write_the_same_at_desk(
+        rt,
+        alloc,
+        &shared,
+        &mut other,
+        &mut other_collector,
+        sink.bytes(),
+    )
 }
 
-/// Another pass collects the same at a desk: all is there, so the first who comes writes it.
-fn write_again_at_desk<L: LimitsName, T: TableName, R: Wait + Abort>(
+/// Another connection hands in the same two calls at a desk: the same is written.
+fn write_the_same_at_desk<L: LimitsName, T: TableName, R: Wait + Abort>(
     rt: &R,
     alloc: Global,
     shared: &Shared<L, T>,
+    pass: &mut Pass<Kept<L>, T>,
     collector: &mut Pass<Kept<L>, T>,
     wanted: &[u8],
 ) -> Result<(), Fail>
     requires fresh { NoneBy caller_of collector.old.number collector.old.history }
+    requires of { pass.old.number ≢ 0 }
 {
     let by = collector.number();
     let mut sink = ByteSink::new(alloc, 4096, 100, Vec::new(alloc))?;
@@ -97,31 +108,37 @@ fn write_again_at_desk<L: LimitsName, T: TableName, R: Wait + Abort>(
         pass: collector,
         sink: &mut sink,
         alloc,
-        of: 1,
+        of: pass.number(),
         end: None,
     };
-    let writer = write_at_desk::<L, T, ByteSink, Brand, R>(rt, shared, writer, by);
+    let writer = write_at_desk::<L, T, ByteSink, Brand, R>(rt, shared, pass, writer, by)?;
     assert_eq!(rt; writer.end, Some(WriterEnd::All));
     assert_eq!(rt; sink.bytes(), wanted);
     Ok(())
 }
 
-/// Writes at a desk: first by one who passes by, and then by one who waits for what is left.
-fn write_at_desk<'w, L: LimitsName, T: TableName, O: Sink, B: Begun, R: Wait>(
+/// Writes at a desk: first by the one who hands in each call, and then by one who waits for what is
+/// left.
+fn write_at_desk<'w, L: LimitsName, T: TableName, O: Sink, B: Begun, R: Wait + Abort>(
     rt: &R,
     shared: &Shared<L, T>,
+    pass: &mut Pass<Kept<L>, T>,
     writer: Writer<'w, L, T, O>,
     by: u32,
-) -> Writer<'w, L, T, O>
+) -> Result<Writer<'w, L, T, O>, Fail>
     requires of { (writer.of ≡ B.of) × (B.of ≢ 0) }
     requires names { (writer.pass.ghost_name ≡ B.pass_name) × (writer.sink.ghost_name ≡ B.sink_name) }
     requires stands { StandsAt L.limits B.of B.held B.faults B.pass (O.held writer.sink.now) (O.faults writer.sink.now) writer.pass.now writer.end }
 {
     let of = writer.of;
     let desk: Mutex<Desk<L, T, O, B>> = Mutex::new(Desk::new(writer));
-    write_unless_taken(rt, shared, &desk);
+    for serial in [8, 9] {
+        let submitted = submit_at_desk(rt, shared, &desk, pass, 0, 0, announce(serial));
+        assert!(rt; submitted.is_ok());
+    }
+    enter(rt, shared, pass, Event::Depart)?;
     write_as_it_comes(rt, shared, by, of, &desk);
-    desk.into_inner().into_writer()
+    Ok(desk.into_inner().into_writer())
 }
 
 /// An announcement of process 5, in the call with this serial.

@@ -1,18 +1,57 @@
 // The loop of the writing half.
-ghost use Rattle.std.specs.Prelude.{◌≡◌, ◌≢◌, ◌≤◌, ℕ, None, Option as TheOption, List as TheList};
+ghost use Rattle.std.specs.Prelude.{◌≡◌, ◌≢◌, ◌≤◌, ◌^◌, ℕ, None, IfOk, IfErr, Option as TheOption, List as TheList};
 ghost use Rattle.authority_model.specs.declared.journal.Item.{Item};
 ghost use Rattle.history_lock.specs.Entries.{NoneBy};
 ghost use Rattle.history_lock.specs.Known.{Known};
+ghost use Rattle.authority_model.specs.Given.{IsStepped, event_given};
 ghost use Rattle.shared_authority.specs.Journals.{caller_of};
+ghost use Rattle.shared_authority.specs.Passes.{CollectsNow, Submitted, SubmitIsRefused};
 ghost use Rattle.connection_writer.specs.Writing.{StandsAt, WritesTo, end_in};
 
 use crate::batches::write_batch;
 use crate::ends::{WriteStop, WriterEnd};
+use authority_model::Event;
 use history_lock::{Pass, TableName};
 use pk_outside::Sink;
-use shared_authority::{Collected, Kept, LimitsName, Shared};
+use shared_authority::{Collected, CollectedNow, Kept, LimitsName, Shared, SubmitRefused};
 use std::alloc::Global;
 use std::sync::Wait;
+
+/// Writes what was collected, if anything was there, and tells whether it was. From wherever it
+/// began: what was written before is written still. The pass has collected just now, and stood for
+/// something before that.
+///
+/// # Errors
+/// How writing has ended.
+fn write_collected<L: LimitsName, T: TableName, O: Sink, R: Wait>(
+    rt: &R,
+    alloc: Global,
+    shared: &Shared<L, T>,
+    pass: &mut Pass<Kept<L>, T>,
+    now: CollectedNow,
+    sink: &mut O,
+) -> Result<bool, WriterEnd>
+    requires { (before : Known Item) × (of : ℕ) × (of ≢ 0) × CollectsNow L.limits before of now pass.old }
+    ensures stands { (before v : Known Item) (of : ℕ) (held : TheOption (TheList ℕ)) (faults : ℕ)
+        → CollectsNow L.limits before of now pass.old
+        → StandsAt L.limits of held faults v (O.held sink.old) (O.faults sink.old) before None
+        → StandsAt L.limits of held faults v (O.held sink.new) (O.faults sink.new) pass.new (end_in result) }
+    ensures later { O.faults sink.old ≤ O.faults sink.new }
+{
+    match now {
+        None => Ok(false),
+        Some(Ok(Collected::Gone)) => Err(WriterEnd::All),
+        Some(Ok(Collected::Batch(batch))) => match write_batch(alloc, batch, sink) {
+            Ok(()) => Ok(true),
+            Err(WriteStop::Failed) => Err(WriterEnd::WriteFault),
+            Err(WriteStop::NoMemory) => Err(WriterEnd::NoMemory),
+        },
+        Some(Err(refused)) => {
+            let cause = shared.end(rt, pass, refused.cause());
+            Err(WriterEnd::Ended { cause })
+        }
+    }
+}
 
 /// Collects the next batch and writes it, if one is there, and tells whether one was. From wherever
 /// it began: what was written before is written still.
@@ -33,19 +72,8 @@ fn write_next<L: LimitsName, T: TableName, O: Sink, R: Wait>(
         → StandsAt L.limits of held faults v (O.held sink.new) (O.faults sink.new) pass.new (end_in result) }
     ensures later { O.faults sink.old ≤ O.faults sink.new }
 {
-    match shared.collect_if_ready(rt, pass, of) {
-        None => Ok(false),
-        Some(Ok(Collected::Gone)) => Err(WriterEnd::All),
-        Some(Ok(Collected::Batch(batch))) => match write_batch(alloc, batch, sink) {
-            Ok(()) => Ok(true),
-            Err(WriteStop::Failed) => Err(WriterEnd::WriteFault),
-            Err(WriteStop::NoMemory) => Err(WriterEnd::NoMemory),
-        },
-        Some(Err(refused)) => {
-            let cause = shared.end(rt, pass, refused.cause());
-            Err(WriterEnd::Ended { cause })
-        }
-    }
+    let now = shared.collect_if_ready(rt, pass, of);
+    write_collected(rt, alloc, shared, pass, now, sink)
 }
 
 /// Collects what is there and writes it, until nothing is left. Answers how writing has ended, if it
@@ -152,5 +180,39 @@ impl<'a, L: LimitsName, T: TableName, O: Sink> Writer<'a, L, T, O> {
         if self.end.is_none() {
             self.end = write_ready(rt, self.alloc, shared, self.pass, self.of, self.sink);
         }
+    }
+    /// Adds the entry of an event of the connection's own pass, and writes what is sent to the
+    /// connection then. Where writing has ended it adds the entry alone.
+    ///
+    /// # Errors
+    /// As for `Shared::submit`.
+    pub(crate) fn submit<R: Wait>(
+        &mut self,
+        rt: &R,
+        shared: &Shared<L, T>,
+        pass: &mut Pass<Kept<L>, T>,
+        moment: u64,
+        salt: u128,
+        event: Event,
+    ) -> Result<u64, SubmitRefused>
+        requires of { self.old.of ≢ 0 }
+        requires event { IsStepped event }
+        requires moment { moment ≤ 2 ^ 62 }
+        ensures ok { IfOk result (λ place. Submitted pass.old (event_given pass.old.number moment salt event) place pass.new) }
+        ensures err { IfErr result (λ refused. SubmitIsRefused L.limits pass.old event refused pass.new) }
+        ensures stands { (v : Known Item) (held : TheOption (TheList ℕ)) (faults : ℕ)
+            → StandsAt L.limits self.old.of held faults v (O.held self.old.sink.now) (O.faults self.old.sink.now) self.old.pass.now self.old.end
+            → StandsAt L.limits self.old.of held faults v (O.held self.new.sink.now) (O.faults self.new.sink.now) self.new.pass.now self.new.end }
+        ensures names { (self.new.pass.ghost_name ≡ self.old.pass.ghost_name) × (self.new.sink.ghost_name ≡ self.old.sink.ghost_name) }
+        ensures of { self.new.of ≡ self.old.of }
+    {
+        if self.end.is_some() {
+            return shared.submit(rt, pass, moment, salt, event);
+        }
+        let (place, now) = shared.submit_and_collect(
+            rt, pass, moment, salt, event, self.pass, self.of,
+        )?;
+        self.end = write_collected(rt, self.alloc, shared, self.pass, now, self.sink).err();
+        Ok(place)
     }
 }

@@ -16,8 +16,9 @@ mod view;
 mod woken;
 
 pub use lock::{HistoryLock, Opened, open_table};
+pub use locked::NextAnswer;
 pub use machine::{EndCause, Machine};
 pub use pass::{Pass, TableName};
 pub use refused::{AdmitRefused, CallRefused};
 pub use view::{Counted, Kind, View};
-pub use woken::{Whom, Woken};
+pub use woken::Woken;

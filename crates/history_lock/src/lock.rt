@@ -7,7 +7,7 @@ ghost use Rattle.history_lock.specs.Kinds.{longer_of};
 ghost use Rattle.history_lock.specs.Causes.{known_or};
 ghost use Rattle.history_lock.specs.Calls.{Learned, Answered, Refused, Admitted, NoneAdmitted};
 
-use crate::locked::{Locked, settle_receipt, take_note_of_pass};
+use crate::locked::{Locked, NextAnswer, settle_receipt, take_note_of_pass};
 use crate::machine::{EndCause, Machine};
 use crate::pass::{Pass, TableName};
 use crate::refused::{AdmitRefused, CallRefused};
@@ -17,8 +17,12 @@ use crate::view::{LockSeat, LockTable};
 use crate::woken::Whom;
 use pk_types::NoMemory;
 use std::alloc::Global;
+use std::hint;
 use std::marker::{Model, PhantomData};
 use std::sync::{Mutex, MutexGuard, Wait};
+
+/// How often a call looks for the lock before it sleeps until the lock is free.
+const LOOKS: u32 = 1000;
 
 /// A table that was just opened, for one lock. Contracts see its name.
 #[derive(Drop)]
@@ -108,7 +112,7 @@ impl<M: Machine, T: TableName> HistoryLock<M, T> {
         ensures full { IfErr result (λ r. NoneAdmitted M.caller_of M.legal pass.old r pass.new) }
         ensures learned { Learned M.caller_of M.legal pass.old pass.new }
     {
-        self.locked.lock(rt).admit(&self.table, pass)
+        self.take(rt).admit(&self.table, pass)
     }
 
     /// Calls the machine, with an operation that is ready in every state. On Ok the pass's history
@@ -133,27 +137,44 @@ impl<M: Machine, T: TableName> HistoryLock<M, T> {
         ensures number { pass.new.number ≡ pass.old.number }
         ensures grows { IsPrefix pass.old.history pass.new.history }
     {
-        self.call_waking(rt, pass, op, Whom::All)
+        self.call_held(self.take(rt), pass, op)
     }
 
-    /// As `call`, but with `Whom::Others` a call that waits for the pass's own number is not woken:
-    /// the caller itself sees to what that one would have done.
-    pub fn call_waking<R: Wait>(
+    /// Calls the machine as `call` does, and then at once for a second pass, where the operation of
+    /// that one is ready then: no other entry comes between. The second answer is as that of
+    /// `call_if_ready`. Calls that wait for the first pass's own number are not woken where the second
+    /// call was made, since that one did what they wait for.
+    ///
+    /// Where the first call is refused the second is not made.
+    pub fn call_then<R: Wait>(
         &self,
         rt: &R,
         pass: &mut Pass<M, T>,
         op: M::Op,
-        whom: Whom,
-    ) -> Result<M::Reply, CallRefused<M::Op, M::Refusal>>
+        next: &mut Pass<M, T>,
+        next_op: M::Op,
+    ) -> Result<(M::Reply, NextAnswer<M>), CallRefused<M::Op, M::Refusal>>
+    where
+        M::Op: Drop,
         requires { (list : List M.Item) → M.legal list → M.is_ready pass.old.number op list }
-        ensures ok { IfOk result (λ reply.
+        ensures ok { IfOk result (λ (reply, _).
             Answered M.caller_of M.legal M.is_ready M.gives pass.old op reply pass.new) }
         ensures err { IfErr result (λ r.
             Refused M.caller_of M.legal M.refuses M.fits pass.old op r pass.new) }
-        ensures number { pass.new.number ≡ pass.old.number }
-        ensures grows { IsPrefix pass.old.history pass.new.history }
+        ensures unmade { IfErr result (λ _. next.new ≡ next.old) }
+        ensures next_none { IfOk result (λ (_, then). then ≡ None → next.new ≡ next.old) }
+        ensures next_ok { IfOk result (λ (_, then). IfSome then (λ answer. IfOk answer (λ reply.
+            Answered M.caller_of M.legal M.is_ready M.gives next.old next_op reply next.new))) }
+        ensures next_err { IfOk result (λ (_, then). IfSome then (λ answer. IfErr answer (λ r.
+            Refused M.caller_of M.legal M.refuses M.fits next.old next_op r next.new))) }
+        ensures number { (pass.new.number ≡ pass.old.number) × (next.new.number ≡ next.old.number) }
+        ensures grows { IsPrefix pass.old.history pass.new.history × IsPrefix next.old.history next.new.history }
     {
-        self.call_held(self.locked.lock(rt), pass, op, whom)
+        let mut locked = self.take(rt);
+        let (answer, woken) = locked.call_then(&self.table, pass, op, next, next_op);
+        drop(locked);
+        self.turns.wake(woken);
+        answer
     }
 
     /// Waits until the operation is ready or the lock has ended, and then is as `call`.
@@ -171,7 +192,7 @@ impl<M: Machine, T: TableName> HistoryLock<M, T> {
         ensures grows { IsPrefix pass.old.history pass.new.history }
     {
         let locked = self.lock_when_ready(rt, pass.number(), &op);
-        self.call_held(locked, pass, op, Whom::All)
+        self.call_held(locked, pass, op)
     }
 
     /// Is as `call`, where the operation is ready or the lock has ended. Elsewhere it is None, the
@@ -192,11 +213,11 @@ impl<M: Machine, T: TableName> HistoryLock<M, T> {
         ensures number { pass.new.number ≡ pass.old.number }
         ensures grows { IsPrefix pass.old.history pass.new.history }
     {
-        let locked = self.locked.lock(rt);
+        let locked = self.take(rt);
         if locked.waits(pass.number(), &op) {
             return None;
         }
-        Some(self.call_held(locked, pass, op, Whom::All))
+        Some(self.call_held(locked, pass, op))
     }
 
     /// Waits until the operation of the caller is ready or the lock has ended. It has no clause, since
@@ -217,7 +238,19 @@ impl<M: Machine, T: TableName> HistoryLock<M, T> {
     {
         self.turns
             .of(M::awaits(op))
-            .wait_while(rt, self.locked.lock(rt), |l| l.waits(caller, op))
+            .wait_while(rt, self.take(rt), |l| l.waits(caller, op))
+    }
+
+    /// Takes the lock. Each call holds it for some microseconds only, so it is worth some looks
+    /// before this thread sleeps.
+    fn take<R: Wait>(&self, rt: &R) -> MutexGuard<'_, Locked<M, T>> {
+        for _look in 0..LOOKS {
+            if let Some(locked) = self.locked.try_lock() {
+                return locked;
+            }
+            hint::spin_loop();
+        }
+        self.locked.lock(rt)
     }
 
     /// Calls the machine while the lock is held, lets the lock go, and wakes whom the call wakes.
@@ -226,7 +259,6 @@ impl<M: Machine, T: TableName> HistoryLock<M, T> {
         locked: MutexGuard<'_, Locked<M, T>>,
         pass: &mut Pass<M, T>,
         op: M::Op,
-        whom: Whom,
     ) -> Result<M::Reply, CallRefused<M::Op, M::Refusal>>
         requires { let held = mutex_guard_value locked in IsSome held.ended
             ⊎ (M.legal held.entries → M.is_ready pass.old.number op held.entries) }
@@ -239,7 +271,7 @@ impl<M: Machine, T: TableName> HistoryLock<M, T> {
     {
         let mut locked = locked;
         let answer = locked.call(&self.table, pass, op);
-        let woken = locked.woken(answer.is_ok(), whom);
+        let woken = locked.woken(answer.is_ok(), Whom::All);
         drop(locked);
         self.turns.wake(woken);
         answer
@@ -257,7 +289,7 @@ impl<M: Machine, T: TableName> HistoryLock<M, T> {
         ensures knows { pass.new.ended ≡ Some result }
         ensures knew { IfSome pass.old.ended (λ known. result ≡ known) }
     {
-        let kept = self.locked.lock(rt).end(&self.table, pass, cause);
+        let kept = self.take(rt).end(&self.table, pass, cause);
         self.turns.wake_all();
         kept
     }

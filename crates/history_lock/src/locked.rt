@@ -22,6 +22,11 @@ use std::marker::{Brand, Model, PhantomData};
 /// How many passes a lock has.
 const MOST_PASSES: u32 = 1_048_576;
 
+/// What a machine answers to a call that is made only where it need not wait.
+pub type NextAnswer<M> = Option<
+    Result<<M as Machine>::Reply, CallRefused<<M as Machine>::Op, <M as Machine>::Refusal>>,
+>;
+
 /// What lies under the lock: the machine, and the book's seat, which knows the whole history.
 /// Contracts see the machine's entries, how many passes were made, and the kept cause.
 #[derive(Drop)]
@@ -194,6 +199,75 @@ impl<M: Machine, T: TableName> Locked<M, T> {
             Err((refusal, op)) => {
                 take_note_of_book(table, &mut self.book, pass); // what it is refused after
                 Err(CallRefused::Machine { refusal, op })
+            }
+        }
+    }
+
+    /// Calls the machine for the pass, unless that has to wait.
+    fn call_if_ready(
+        &mut self,
+        table: &LockTable<M>,
+        pass: &mut Pass<M, T>,
+        op: M::Op,
+    ) -> NextAnswer<M>
+    where
+        M::Op: Drop,
+        requires { IsNamed table.now.shared.table_id T.table }
+        ensures none { result ≡ None → pass.new ≡ pass.old }
+        ensures ok { IfSome result (λ answer. IfOk answer (λ reply.
+            Answered M.caller_of M.legal M.is_ready M.gives pass.old op reply pass.new)) }
+        ensures err { IfSome result (λ answer. IfErr answer (λ r.
+            Refused M.caller_of M.legal M.refuses M.fits pass.old op r pass.new)) }
+        ensures number { pass.new.number ≡ pass.old.number }
+        ensures grows { IsPrefix pass.old.history pass.new.history }
+    {
+        if self.waits(pass.number(), &op) {
+            return None;
+        }
+        Some(self.call(table, pass, op))
+    }
+
+    /// Calls the machine for the pass, and then for the next one, unless that has to wait. Tells whom
+    /// this wakes: all that the two entries have made ready, but those that wait for the pass's own
+    /// number where the next one was called.
+    pub fn call_then(
+        &mut self,
+        table: &LockTable<M>,
+        pass: &mut Pass<M, T>,
+        op: M::Op,
+        next: &mut Pass<M, T>,
+        next_op: M::Op,
+    ) -> (
+        Result<(M::Reply, NextAnswer<M>), CallRefused<M::Op, M::Refusal>>,
+        Woken,
+    )
+    where
+        M::Op: Drop,
+        requires table { IsNamed table.now.shared.table_id T.table }
+        requires turn { M.legal self.old.entries → M.is_ready pass.old.number op self.old.entries }
+        ensures ok { let (answer, _) = result in IfOk answer (λ (reply, _).
+            Answered M.caller_of M.legal M.is_ready M.gives pass.old op reply pass.new) }
+        ensures err { let (answer, _) = result in IfErr answer (λ r.
+            Refused M.caller_of M.legal M.refuses M.fits pass.old op r pass.new) }
+        ensures unmade { let (answer, _) = result in IfErr answer (λ _. next.new ≡ next.old) }
+        ensures next_none { let (answer, _) = result in IfOk answer (λ (_, then). then ≡ None → next.new ≡ next.old) }
+        ensures next_ok { let (answer, _) = result in IfOk answer (λ (_, then). IfSome then (λ a. IfOk a (λ reply.
+            Answered M.caller_of M.legal M.is_ready M.gives next.old next_op reply next.new))) }
+        ensures next_err { let (answer, _) = result in IfOk answer (λ (_, then). IfSome then (λ a. IfErr a (λ r.
+            Refused M.caller_of M.legal M.refuses M.fits next.old next_op r next.new))) }
+        ensures number { (pass.new.number ≡ pass.old.number) × (next.new.number ≡ next.old.number) }
+        ensures grows { IsPrefix pass.old.history pass.new.history × IsPrefix next.old.history next.new.history }
+    {
+        let reply = match self.call(table, pass, op) {
+            Ok(reply) => reply,
+            Err(refused) => return (Err(refused), Woken::nobody()),
+        };
+        let (all, others) = (self.woken(true, Whom::All), self.woken(true, Whom::Others));
+        match self.call_if_ready(table, next, next_op) {
+            None => (Ok((reply, None)), all),
+            Some(answer) => {
+                let also = self.woken(answer.is_ok(), Whom::All);
+                (Ok((reply, Some(answer))), others.and(also))
             }
         }
     }

@@ -5,13 +5,12 @@ ghost use Rattle.history_lock.specs.Waking.{Wakes};
 /// At how many places calls wait.
 pub(crate) const PLACES: u32 = 128;
 
-/// Whom a call wakes.
+/// Whom an entry wakes, among those that it has made ready.
 #[derive(Clone, Copy)]
-pub enum Whom {
-    /// All that its entry has made ready.
+pub(crate) enum Whom {
+    /// All.
     All,
-    /// All that its entry has made ready, but those that wait for the caller's own number: to these
-    /// the caller itself will see.
+    /// All but those that wait for the number of the entry's own caller.
     Others,
 }
 
@@ -35,6 +34,16 @@ impl Woken {
     {
         Woken {
             places: self.places | 1 << (number % PLACES),
+        }
+    }
+
+    /// These, and the others.
+    pub(crate) fn and(self, others: Woken) -> Woken
+        ensures first { (number : ℕ) → Wakes self number → Wakes result number }
+        ensures second { (number : ℕ) → Wakes others number → Wakes result number }
+    {
+        Woken {
+            places: self.places | others.places,
         }
     }
 

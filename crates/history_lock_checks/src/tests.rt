@@ -2,7 +2,7 @@ ghost use Rattle.std.specs.Prelude.{◌≡◌};
 
 use super::*;
 use history_lock::{
-    AdmitRefused, CallRefused, EndCause, HistoryLock, Opened, TableName, Whom, open_table,
+    AdmitRefused, CallRefused, EndCause, HistoryLock, Opened, TableName, open_table,
 };
 use std::alloc::Global;
 use std::marker::Brand;
@@ -95,7 +95,7 @@ fn calls_what_is_ready_alone(rt: HostRuntime) -> Result<(), Fail> {
     call_what_is_ready::<Brand, _>(&rt, rt.alloc(), opened)
 }
 
-/// What is not ready is not called; once it is, nobody waits for it.
+/// What is not ready is not called, neither alone nor behind another call; once it is, it is.
 fn call_what_is_ready<T: TableName, R: Wait + Abort>(
     rt: &R,
     alloc: Global,
@@ -104,30 +104,32 @@ fn call_what_is_ready<T: TableName, R: Wait + Abort>(
     requires { opened ≡ T.table }
 {
     let (lock, mut one) = HistoryLock::<Tally, T>::start(Tally::new(alloc), opened)?;
-    let early = lock.call_if_ready(rt, &mut one, after_one());
+    let mut two = lock.admit(rt, &mut one).ok().ok_or("admits")?;
+    let early = lock.call_if_ready(rt, &mut one, seven_after(1));
     assert!(rt; early.is_none());
-    let added = lock.call_waking(rt, &mut one, Op::Add(5), Whom::Others);
-    assert_eq!(rt; added.ok(), Some(0));
-    lock.wait_until_ready(rt, one.number(), &after_one());
+    let alone = lock.call_then(rt, &mut one, Op::Add(5), &mut two, seven_after(2));
+    assert!(rt; matches!(alone, Ok((0, None))));
+    let both = lock.call_then(rt, &mut one, Op::Add(6), &mut two, seven_after(2));
+    assert!(rt; matches!(both, Ok((1, Some(Ok(2))))));
+    let neither = lock.call_then(rt, &mut one, Op::Add(0), &mut two, seven_after(2));
+    assert!(rt; neither.is_err());
+    lock.wait_until_ready(rt, one.number(), &seven_after(3));
     let late = lock
-        .call_if_ready(rt, &mut one, after_one())
+        .call_if_ready(rt, &mut one, seven_after(3))
         .ok_or("is ready")?;
-    assert_eq!(rt; late.ok(), Some(1));
+    assert_eq!(rt; late.ok(), Some(3));
     let tally = lock.close(one);
-    let amounts = [5, 7];
+    let amounts = [(0, 5), (0, 6), (1, 7), (0, 7)];
     assert_eq!(rt; tally.entries().len(), amounts.len());
-    for (entry, amount) in tally.entries().iter().zip(amounts) {
-        assert_eq!(rt; entry.amount, amount);
+    for (entry, (caller, amount)) in tally.entries().iter().zip(amounts) {
+        assert_eq!(rt; (entry.caller, entry.amount), (caller, amount));
     }
     Ok(())
 }
 
-/// An amount that waits for one entry.
-fn after_one() -> Op {
-    Op::AddAfter {
-        amount: 7,
-        entries: 1,
-    }
+/// Seven, which waits for so many entries.
+fn seven_after(entries: u64) -> Op {
+    Op::AddAfter { amount: 7, entries }
 }
 
 #[test]

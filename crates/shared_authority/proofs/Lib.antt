@@ -1,5 +1,6 @@
-pub mod Growing
-pub mod Refusing
-pub mod Entering
+pub mod Calling
 pub mod Causes
+pub mod Entering
+pub mod Growing
 pub mod Readying
+pub mod Refusing

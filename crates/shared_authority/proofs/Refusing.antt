@@ -1,5 +1,11 @@
 -- What the authority refuses, as the machine says it.
-use Rattle.std.proofs.Common.{◌≡◌, ℕ, ◌≤◌, ap, length}
+use Rattle.std.proofs.Common.{◌≡◌, ℕ, ◌≤◌, Some, refl, ap, sym, ◌∙◌, subst, length}
+use Rattle.std.specs.Prelude.{IsSome}
+use Rattle.history_lock.specs.Known.{Known}
+use Rattle.history_lock.specs.Calls.{Refused}
+use Rattle.history_lock.specs.declared.refused.CallRefused.{CallRefused}
+use Rattle.history_lock.specs.declared.refused.CallRefused.TheVariants.{Ended, Machine}
+use Rattle.authority_model.specs.declared.journal.Item.{Item}
 use Rattle.authority_model.specs.declared.event.Event.{Event}
 use Rattle.authority_model.specs.declared.journal.Limits.{Limits}
 use Rattle.authority_model.specs.declared.load.Loaded.{Loaded}
@@ -12,8 +18,11 @@ use Rattle.authority_core.specs.declared.authority.StepRefused.{StepRefused}
 use Rattle.authority_core.specs.declared.authority.StepRefused.TheVariants as step
 use Rattle.authority_core.specs.declared.authority.LoadStepRefused.{LoadStepRefused}
 use Rattle.authority_core.specs.declared.authority.LoadStepRefused.TheVariants as load
+use Rattle.shared_authority.specs.declared.operation.Op.{Op}
 use Rattle.shared_authority.specs.declared.operation.Op.TheVariants.{Step, Load}
-use Rattle.shared_authority.specs.Machines.{Refuses}
+use Rattle.shared_authority.specs.declared.operation.Refusal.{Refusal}
+use Rattle.shared_authority.specs.Journals.{IsJournal, Fits, caller_of}
+use Rattle.shared_authority.specs.Machines.{Refuses, event_in, handed_back}
 use Rattle.shared_authority.specs.Handing.{op_of_step, refusal_of_step, op_of_load, refusal_of_load, refusal_of_collect}
 use Rattle.shared_authority.proofs.Growing.{full_with}
 
@@ -41,3 +50,12 @@ load_refuses journal limits loaded (load.NoMemory back) r named within = tt
 pub collect_refuses : (journal : Journal) (limits : Limits) (refused : CollectStepRefused) → IsCollectRefused journal refused → journal.limits ≡ limits → length journal.history.entries ≤ limits.entries → Refuses limits (in_order journal.history) (refusal_of_collect refused)
 collect_refuses journal limits (collect.JournalFull entries bytes) r named within = full_with journal limits entries bytes r named within
 collect_refuses journal limits collect.NoMemory r named within = tt
+
+-- an event that the lock refuses comes back
+pub event_comes_back : (limits : Limits) (v w : Known Item) (moment salt : ℕ) (event : Event) (refused : CallRefused Op Refusal) → Refused caller_of IsJournal (λ n op list refusal. Refuses limits list refusal) (Fits limits) v (Step moment salt event) refused w → IsSome (event_in (handed_back refused))
+event_comes_back limits v w moment salt event (Ended cause op) r = subst (λ (o : Op). IsSome (event_in o)) (sym r.0) refl
+event_comes_back limits v w moment salt event (Machine refusal op) r = subst (λ (o : Op). IsSome (event_in o)) (sym r.0) refl
+
+-- and it is the event that was handed in
+pub same_event : (op : Op) (moment salt : ℕ) (event back : Event) → op ≡ Step moment salt event → event_in op ≡ Some back → back ≡ event
+same_event op moment salt event back is found = let some : Some back ≡ Some event = sym found ∙ ap event_in is in cc

@@ -14,6 +14,8 @@ use Rattle.shared_authority.specs.declared.operation.Reply.{Reply}
 use Rattle.shared_authority.specs.declared.operation.Reply.TheVariants.{At, Batch as Batched}
 use Rattle.shared_authority.specs.declared.operation.Refusal.{Refusal}
 use Rattle.shared_authority.specs.declared.operation.Refusal.TheVariants.{JournalFull, NoMemory}
+use Rattle.history_lock.specs.declared.refused.CallRefused.{CallRefused}
+use Rattle.history_lock.specs.declared.refused.CallRefused.TheVariants.{Ended, Machine}
 use Rattle.shared_authority.specs.Journals.{IsFullWith, past_of}
 
 -- the event in an operation
@@ -35,6 +37,11 @@ place_in _ = None
 abbrev pub batch_in : Reply → Option Batch
 batch_in (Batched batch) = Some batch
 batch_in _ = None
+
+-- the operation that a refused call hands back
+abbrev pub handed_back : CallRefused Op Refusal → Op
+handed_back (Ended cause op) = op
+handed_back (Machine refusal op) = op
 
 -- A connection's operation may be applied: an event is not a load and not a Collect, and a moment is at most 2^62. A Collect may be applied where there is something to collect, or where the other connection has departed.
 abbrev pub IsReady : ℕ → Op → List Item → Type 0

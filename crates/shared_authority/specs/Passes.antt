@@ -1,7 +1,8 @@
 -- What a call says of its pass, which stands for v before the call and for w after it.
-use Rattle.std.specs.Prelude.{◌≢◌, ◌≤◌, true, [], ◌≡◌, ℕ, Some, None, length}
+use Rattle.std.specs.Prelude.{◌≢◌, ◌≤◌, true, [], ◌≡◌, ℕ, Option, Some, None, Result, Ok, Err, length}
 use Rattle.history_lock.specs.Known.{Known}
-use Rattle.history_lock.specs.Calls.{Learned, LearnedOwn}
+use Rattle.history_lock.specs.Calls.{Answered, Learned, LearnedOwn, Refused}
+use Rattle.history_lock.specs.declared.refused.CallRefused.{CallRefused}
 use Rattle.history_lock.specs.declared.machine.EndCause.{EndCause}
 use Rattle.authority_model.specs.declared.event.Event.{Event}
 use Rattle.authority_model.specs.declared.journal.Item.{Item}
@@ -17,6 +18,10 @@ use Rattle.shared_authority.specs.declared.collecting.Collected.TheVariants as c
 use Rattle.shared_authority.specs.declared.collecting.CollectRefused.{CollectRefused}
 use Rattle.shared_authority.specs.declared.collecting.CollectRefused.TheVariants as collect
 use Rattle.shared_authority.specs.Journals.{IsJournal, Fits, IsFullWith, caller_of, past_of}
+use Rattle.shared_authority.specs.Machines.{IsReady, Gives, Refuses}
+use Rattle.shared_authority.specs.declared.operation.Op.{Op}
+use Rattle.shared_authority.specs.declared.operation.Reply.{Reply}
+use Rattle.shared_authority.specs.declared.operation.Refusal.{Refusal}
 use Rattle.shared_authority.specs.declared.refused.SubmitRefused.{SubmitRefused}
 use Rattle.shared_authority.specs.declared.refused.SubmitRefused.TheVariants as submit
 use Rattle.shared_authority.specs.declared.refused.SubmitLoadRefused.{SubmitLoadRefused}
@@ -93,3 +98,15 @@ abbrev pub CollectIsRefused : Limits → Known Item → CollectRefused → Known
 CollectIsRefused limits v (collect.Ended cause) w = IsEnded limits v cause w
 CollectIsRefused limits v (collect.JournalFull entries bytes) w = IsFull limits v entries bytes w
 CollectIsRefused limits v collect.NoMemory w = IsOutOfMemory v w
+
+-- What a Collect that does not wait answers: what was collected or that nothing was, or none where nothing is there, and then the pass has learned nothing.
+abbrev pub CollectsNow : Limits → Known Item → ℕ → Option (Result Collected CollectRefused) → Known Item → Type 0
+CollectsNow limits v of None w = w ≡ v
+CollectsNow limits v of (Some (Ok told)) w = Collects v of told w
+CollectsNow limits v of (Some (Err refused)) w = CollectIsRefused limits v refused w
+
+-- What the lock answers to a call that does not wait.
+abbrev pub CalledNow : Limits → Known Item → Op → Option (Result Reply (CallRefused Op Refusal)) → Known Item → Type 0
+CalledNow limits v op None w = w ≡ v
+CalledNow limits v op (Some (Ok reply)) w = Answered caller_of IsJournal IsReady Gives v op reply w
+CalledNow limits v op (Some (Err refused)) w = Refused caller_of IsJournal (λ n given list refusal. Refuses limits list refusal) (Fits limits) v op refused w

@@ -1,12 +1,11 @@
 // What is collected, and why nothing was.
-ghost use Rattle.std.specs.Prelude.{ℕ, IfOk, IfErr, IsSome};
+ghost use Rattle.std.specs.Prelude.{ℕ, Some, IfOk, IfSome, IsSome};
 ghost use Rattle.history_lock.specs.Known.{Known};
-ghost use Rattle.history_lock.specs.Calls.{Answered, Refused};
 ghost use Rattle.authority_model.specs.declared.journal.Item.{Item};
 ghost use Rattle.authority_model.specs.declared.journal.Limits.{Limits};
-ghost use Rattle.shared_authority.specs.Journals.{IsJournal, Fits, caller_of};
-ghost use Rattle.shared_authority.specs.Machines.{IsReady, Gives, Refuses, batch_in};
-ghost use Rattle.shared_authority.specs.Passes.{Collects, CollectIsRefused, Tells};
+ghost use Rattle.shared_authority.specs.Journals.{Fits};
+ghost use Rattle.shared_authority.specs.Machines.{batch_in};
+ghost use Rattle.shared_authority.specs.Passes.{CalledNow, CollectIsRefused, CollectsNow, Tells};
 
 use crate::operation::{Op, Refusal, Reply};
 use authority_core::Batch;
@@ -33,6 +32,9 @@ impl Collected {
         }
     }
 }
+
+/// What is collected by a call that does not wait: None where there is nothing to collect yet.
+pub type CollectedNow = Option<Result<Collected, CollectRefused>>;
 
 /// Why nothing was collected.
 #[derive(Clone, Copy, Debug, PartialEq, Eq)]
@@ -66,12 +68,9 @@ pub(crate) fn collected_or_refused(
     answer: Result<Reply, CallRefused<Op, Refusal>>,
 ) -> Result<Collected, CollectRefused>
     requires { IfOk answer (λ reply. IsSome (batch_in reply)) }
-    ensures ok { (v w : Known Item) (of : ℕ)
-        → IfOk answer (λ reply. Answered caller_of IsJournal IsReady Gives v (Op.Collect of) reply w)
-        → IfOk result (λ collected. Collects v of collected w) }
-    ensures err { (limits : Limits) (v w : Known Item) (of : ℕ)
-        → IfErr answer (λ refused. Refused caller_of IsJournal (λ n op list refusal. Refuses limits list refusal) (Fits limits) v (Op.Collect of) refused w)
-        → IfErr result (λ refused. CollectIsRefused limits v refused w) }
+    ensures { (limits : Limits) (v w : Known Item) (of : ℕ)
+        → CalledNow limits v (Op.Collect of) (Some answer) w
+        → CollectsNow limits v of (Some result) w }
 {
     match answer {
         Ok(reply) => Ok(Collected::of_batch(reply.into_batch())),
@@ -89,5 +88,18 @@ pub(crate) fn collected_or_refused(
                 Refusal::NoMemory => Err(CollectRefused::NoMemory),
             }
         }
+    }
+}
+
+/// What the lock answers to a Collect that does not wait, as what was collected or why nothing was.
+pub(crate) fn collected_now(answer: Option<Result<Reply, CallRefused<Op, Refusal>>>) -> CollectedNow
+    requires { IfSome answer (λ a. IfOk a (λ reply. IsSome (batch_in reply))) }
+    ensures { (limits : Limits) (v w : Known Item) (of : ℕ)
+        → CalledNow limits v (Op.Collect of) answer w
+        → CollectsNow limits v of result w }
+{
+    match answer {
+        None => None,
+        Some(answer) => Some(collected_or_refused(answer)),
     }
 }

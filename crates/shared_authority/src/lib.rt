@@ -10,7 +10,7 @@ mod refused;
 mod shared;
 mod waking;
 
-pub use collecting::{CollectRefused, Collected};
+pub use collecting::{CollectRefused, Collected, CollectedNow};
 pub use kept::{Kept, LimitsName};
 pub use operation::{Op, Refusal, Reply};
 pub use refused::{SubmitLoadRefused, SubmitRefused};

@@ -1,14 +1,18 @@
 // Why nothing was entered.
+ghost use Rattle.std.specs.Prelude.{ℕ, IsSome};
 ghost use Rattle.history_lock.specs.Known.{Known};
+ghost use Rattle.history_lock.specs.Calls.{Refused};
 ghost use Rattle.authority_model.specs.declared.event.Event.{Event};
 ghost use Rattle.authority_model.specs.declared.journal.Item.{Item};
 ghost use Rattle.authority_model.specs.declared.journal.Limits.{Limits};
 ghost use Rattle.authority_model.specs.declared.load.Loaded.{Loaded};
-ghost use Rattle.shared_authority.specs.Journals.{Fits};
+ghost use Rattle.shared_authority.specs.Journals.{IsJournal, Fits, caller_of};
+ghost use Rattle.shared_authority.specs.Machines.{Refuses, event_in, handed_back};
 ghost use Rattle.shared_authority.specs.Passes.{SubmitIsRefused, SubmitLoadIsRefused};
 
+use crate::operation::{Op, Refusal};
 use authority_model::{Event, Loaded};
-use history_lock::EndCause;
+use history_lock::{CallRefused, EndCause};
 
 /// Why an event was refused. It comes back.
 #[derive(Drop)]
@@ -46,6 +50,32 @@ impl SubmitRefused {
                 bytes: *bytes,
             },
             SubmitRefused::NoMemory { event: _ } => EndCause::NoMemory,
+        }
+    }
+}
+
+/// Why the lock refused an event, which comes back.
+pub(crate) fn submit_refused(refused: CallRefused<Op, Refusal>) -> SubmitRefused
+    requires { IsSome (event_in (handed_back refused)) }
+    ensures { (limits : Limits) (v w : Known Item) (moment salt : ℕ) (event : Event)
+        → Refused caller_of IsJournal (λ n op list refusal. Refuses limits list refusal) (Fits limits) v (Op.Step moment salt event) refused w
+        → SubmitIsRefused limits v event result w }
+{
+    match refused {
+        CallRefused::Ended { cause, op } => {
+            let event = op.into_event();
+            SubmitRefused::Ended { cause, event }
+        }
+        CallRefused::Machine { refusal, op } => {
+            let event = op.into_event();
+            match refusal {
+                Refusal::JournalFull { entries, bytes } => SubmitRefused::JournalFull {
+                    entries,
+                    bytes,
+                    event,
+                },
+                Refusal::NoMemory => SubmitRefused::NoMemory { event },
+            }
         }
     }
 }

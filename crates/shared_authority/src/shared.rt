@@ -9,17 +9,17 @@ ghost use Rattle.authority_model.specs.Entering.{AreAllowed};
 ghost use Rattle.authority_model.specs.Given.{IsStepped, event_given, load_given};
 ghost use Rattle.authority_laws.specs.Batches.{in_order};
 ghost use Rattle.shared_authority.specs.Journals.{IsJournal, Fits, caller_of};
-ghost use Rattle.shared_authority.specs.Passes.{Collects, CollectIsRefused, Submitted, SubmitIsRefused, SubmitLoadIsRefused};
+ghost use Rattle.shared_authority.specs.Passes.{Collects, CollectIsRefused, CollectsNow, Submitted, SubmitIsRefused, SubmitLoadIsRefused};
 
-use crate::collecting::{CollectRefused, Collected, collected_or_refused};
+use crate::collecting::{
+    CollectRefused, Collected, CollectedNow, collected_now, collected_or_refused,
+};
 use crate::kept::{Kept, LimitsName};
 use crate::operation::{Op, Refusal};
-use crate::refused::{SubmitLoadRefused, SubmitRefused};
+use crate::refused::{SubmitLoadRefused, SubmitRefused, submit_refused};
 use authority_core::Authority;
 use authority_model::{Event, Limits, Loaded};
-use history_lock::{
-    AdmitRefused, CallRefused, EndCause, HistoryLock, Opened, Pass, TableName, Whom,
-};
+use history_lock::{AdmitRefused, CallRefused, EndCause, HistoryLock, Opened, Pass, TableName};
 use pk_types::NoMemory;
 use std::alloc::Global;
 use std::sync::Wait;
@@ -97,29 +97,7 @@ impl<L: LimitsName, T: TableName> Shared<L, T> {
         ensures number { pass.new.number ≡ pass.old.number }
         ensures grows { IsPrefix pass.old.history pass.new.history }
     {
-        self.submit_waking(rt, pass, moment, salt, event, Whom::All)
-    }
-
-    /// As `submit`, and `whom` says which of the collectors are woken. With `Whom::Others` one that
-    /// waits for the outputs to the pass's own connection is not: the caller sees to these itself, by
-    /// `collect_if_ready`.
-    pub fn submit_waking<R: Wait>(
-        &self,
-        rt: &R,
-        pass: &mut Pass<Kept<L>, T>,
-        moment: u64,
-        salt: u128,
-        event: Event,
-        whom: Whom,
-    ) -> Result<u64, SubmitRefused>
-        requires event { IsStepped event }
-        requires moment { moment ≤ 2 ^ 62 }
-        ensures ok { IfOk result (λ place. Submitted pass.old (event_given pass.old.number moment salt event) place pass.new) }
-        ensures err { IfErr result (λ refused. SubmitIsRefused L.limits pass.old event refused pass.new) }
-        ensures number { pass.new.number ≡ pass.old.number }
-        ensures grows { IsPrefix pass.old.history pass.new.history }
-    {
-        match self.lock.call_waking(
+        match self.lock.call(
             rt,
             pass,
             Op::Step {
@@ -127,24 +105,49 @@ impl<L: LimitsName, T: TableName> Shared<L, T> {
                 salt,
                 event,
             },
-            whom,
         ) {
             Ok(reply) => Ok(reply.into_place()),
-            Err(CallRefused::Ended { cause, op }) => {
-                let event = op.into_event();
-                Err(SubmitRefused::Ended { cause, event })
-            }
-            Err(CallRefused::Machine { refusal, op }) => {
-                let event = op.into_event();
-                match refusal {
-                    Refusal::JournalFull { entries, bytes } => Err(SubmitRefused::JournalFull {
-                        entries,
-                        bytes,
-                        event,
-                    }),
-                    Refusal::NoMemory => Err(SubmitRefused::NoMemory { event }),
-                }
-            }
+            Err(refused) => Err(submit_refused(refused)),
+        }
+    }
+
+    /// Adds the entry of an event as `submit` does, and at once collects for a second pass as
+    /// `collect_if_ready` does: no other entry comes between. Where that one collects the outputs to
+    /// the first pass's connection, others that wait for these are not woken.
+    ///
+    /// # Errors
+    /// As for `submit`. Then nothing is collected, and the second pass has learned nothing.
+    pub fn submit_and_collect<R: Wait>(
+        &self,
+        rt: &R,
+        pass: &mut Pass<Kept<L>, T>,
+        moment: u64,
+        salt: u128,
+        event: Event,
+        collector: &mut Pass<Kept<L>, T>,
+        of: u32,
+    ) -> Result<(u64, CollectedNow), SubmitRefused>
+        requires event { IsStepped event }
+        requires moment { moment ≤ 2 ^ 62 }
+        ensures ok { IfOk result (λ (place, _). Submitted pass.old (event_given pass.old.number moment salt event) place pass.new) }
+        ensures collects { IfOk result (λ (_, now). CollectsNow L.limits collector.old of now collector.new) }
+        ensures err { IfErr result (λ refused. SubmitIsRefused L.limits pass.old event refused pass.new × (collector.new ≡ collector.old)) }
+        ensures number { (pass.new.number ≡ pass.old.number) × (collector.new.number ≡ collector.old.number) }
+        ensures grows { IsPrefix pass.old.history pass.new.history × IsPrefix collector.old.history collector.new.history }
+    {
+        match self.lock.call_then(
+            rt,
+            pass,
+            Op::Step {
+                moment,
+                salt,
+                event,
+            },
+            collector,
+            Op::Collect { of },
+        ) {
+            Ok((reply, then)) => Ok((reply.into_place(), collected_now(then))),
+            Err(first) => Err(submit_refused(first)),
         }
     }
 
@@ -221,17 +224,12 @@ impl<L: LimitsName, T: TableName> Shared<L, T> {
         rt: &R,
         pass: &mut Pass<Kept<L>, T>,
         of: u32,
-    ) -> Option<Result<Collected, CollectRefused>>
-        ensures none { result ≡ None → pass.new ≡ pass.old }
-        ensures ok { IfSome result (λ answer. IfOk answer (λ collected. Collects pass.old of collected pass.new)) }
-        ensures err { IfSome result (λ answer. IfErr answer (λ refused. CollectIsRefused L.limits pass.old refused pass.new)) }
+    ) -> CollectedNow
+        ensures collects { CollectsNow L.limits pass.old of result pass.new }
         ensures number { pass.new.number ≡ pass.old.number }
         ensures grows { IsPrefix pass.old.history pass.new.history }
     {
-        match self.lock.call_if_ready(rt, pass, Op::Collect { of }) {
-            None => None,
-            Some(answer) => Some(collected_or_refused(answer)),
-        }
+        collected_now(self.lock.call_if_ready(rt, pass, Op::Collect { of }))
     }
 
     /// Waits until the pass with the number `by` has an output to the connection `of` to collect, or

@@ -12,8 +12,8 @@ returns-in-Err g c = record {
     drawn = c.word-word.ensures.gave;
     enters = record {
       fits = c.end.ensures.fits;
-      learned = learned_trans caller_of IsJournal c.args.pass.now c.submit_waking.new.pass c.end.new.pass
-          (submit_learned g.L.LimitsName.limits c.args.pass.now c.args.event c.in-Err.refused c.submit_waking.new.pass c.in-Err.ensures.err) c.end.ensures.learned;
+      learned = learned_trans caller_of IsJournal c.args.pass.now c.submit.new.pass c.end.new.pass
+          (submit_learned g.L.LimitsName.limits c.args.pass.now c.args.event c.in-Err.refused c.submit.new.pass c.in-Err.ensures.err) c.end.ensures.learned;
       knows = c.end.ensures.knows;
     };
   };

@@ -1,0 +1,19 @@
+use Rattle.std.proofs.Common.{ℕ, sym, ◌∙◌, subst}
+use Rattle.connection_writer.specs.Writing.{StandsAt}
+use Rattle.connection_writer.proofs.desk.Desk.submit.Goals as goal
+
+pub invariant_of-self : goal.invariant_of-self
+invariant_of-self g c =
+    let B = g.B.Begun in
+    let limits = g.L.LimitsName.limits in
+    let old = c.self.inside.writer in
+    let new = c.submit.new.self in
+    let e = c.submit.ensures in
+    let i = c.self.invariant in (
+      e.of ∙ i.0,
+      i.1,
+      e.names.0 ∙ i.2,
+      e.names.1 ∙ i.3,
+      subst (λ (n : ℕ). StandsAt limits n B.held B.faults B.pass (g.O.Sink.held new.sink.now) (g.O.Sink.faults new.sink.now) new.pass.now new.end) i.0
+          (e.stands B.pass B.held B.faults (subst (λ (n : ℕ). StandsAt limits n B.held B.faults B.pass (g.O.Sink.held old.sink.now) (g.O.Sink.faults old.sink.now) old.pass.now old.end) (sym i.0) i.4)),
+    )
