@@ -1,10 +1,9 @@
 -- Lines that are taken one after another.
-use Rattle.std.proofs.Common.{◌≡◌, ◌≢◌, ℕ, ◌<◌, List, [], ◌∷◌, ◌++◌, Option, Some, None, refl, ap, sym, ◌∙◌, is_some, arith}
+use Rattle.std.proofs.Common.{◌≡◌, ◌≢◌, ℕ, ◌<◌, ◌≤◌, List, [], ◌∷◌, ◌++◌, Option, Some, None, refl, ap, sym, ◌∙◌, is_some, arith}
 use Rattle.std.specs.Prelude.{◌==◌, Bool, true, false, if◌then◌else◌, length, slice_index_or, slice_set}
 use Rattle.std.proofs.lemmas.Bool.{eqb-false, eq-eqb, ne_eqb}
 use Rattle.authority_model.specs.Lists.{Each}
 use Rattle.journal_scan.specs.declared.callers.Place.{Place}
-use Rattle.journal_scan.specs.declared.counts.TheConstants.{PLACES}
 use Rattle.journal_scan.specs.declared.lines.ConnectionLine.{ConnectionLine}
 use Rattle.journal_scan.specs.Lines.{NumbersDiffer, uid_on}
 use Rattle.journal_scan.specs.Standing.{place_of}
@@ -47,15 +46,20 @@ no_uid lines c place is none = of (uid_on lines c) (ap (λ (p : Place). is_some 
     of (Some x) none = absurd (cc (none))
 
 -- one more line is taken
-pub line_taken : (lines : List ConnectionLine) (l : ConnectionLine) (rows : List Place) (old : Place)
-    → IsTable PLACES (λ c place. place ≡ place_of lines [] c) rows → l.number < length rows → old ≡ slice_index_or rows l.number old → is_some old.uid ≡ false
-    → (l.number < PLACES) × (uid_on lines l.number ≡ None) × IsTable PLACES (λ c place. place ≡ place_of (lines ++ l ∷ []) [] c) (slice_set rows l.number (record { uid = Some l.uid; stage = old.stage }))
-line_taken lines l rows old table inside is none =
+pub line_taken : (size : ℕ) (lines : List ConnectionLine) (l : ConnectionLine) (rows : List Place) (old : Place)
+    → IsTable size (λ c place. place ≡ place_of lines [] c) rows → l.number < length rows → old ≡ slice_index_or rows l.number old → is_some old.uid ≡ false
+    → (l.number < size) × (uid_on lines l.number ≡ None) × IsTable size (λ c place. place ≡ place_of (lines ++ l ∷ []) [] c) (slice_set rows l.number (record { uid = Some l.uid; stage = old.stage }))
+line_taken size lines l rows old table inside is none =
     let old_is : old ≡ place_of lines [] l.number = is ∙ table.each l.number old inside in
     let no : uid_on lines l.number ≡ None = no_uid lines l.number old old_is none in
     let new : Place = record { uid = Some l.uid; stage = old.stage } in
     let new_is : new ≡ place_of (lines ++ l ∷ []) [] l.number = cc (uid_last lines l no, ap (λ (p : Place). p.stage) old_is) in (
       omega (arith, table.sized),
       no,
-      table_set PLACES (λ c place. place ≡ place_of lines [] c) (λ c place. place ≡ place_of (lines ++ l ∷ []) [] c) rows l.number new table inside new_is (λ c x other holds. holds ∙ ap (λ (o : Option ℕ). record { uid = o; stage = (place_of lines [] c).stage }) (sym (uid_other lines l c other))),
+      table_set size (λ c place. place ≡ place_of lines [] c) (λ c place. place ≡ place_of (lines ++ l ∷ []) [] c) rows l.number new table inside new_is (λ c x other holds. holds ∙ ap (λ (o : Option ℕ). record { uid = o; stage = (place_of lines [] c).stage }) (sym (uid_other lines l c other))),
     )
+
+-- numbers below one bound are below a greater one
+pub each_below : (n m : ℕ) (lines : List ConnectionLine) → n ≤ m → Each (λ l. l.number < n) lines → Each (λ l. l.number < m) lines
+each_below n m [] le each = tt
+each_below n m (l ∷ lines) le each = let below : l.number < n = each.0 in (omega (arith, below, le), each_below n m lines le each.1)

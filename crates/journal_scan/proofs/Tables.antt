@@ -12,6 +12,10 @@ table_new {R} n P r rows is holds = subst (IsTable n P) (sym is) (record {
   each = (λ c d within. subst (P c) (sym (get_or-replicate n c r d (rw length-replicate at within))) (holds c));
 })
 
+-- a table has as many rows as it has
+pub table_sized : {R : Type 0} {n : ℕ} {P : ℕ → R → Type 0} {rows : List R} → IsTable n P rows → IsTable (length rows) P rows
+table_sized table = record { sized = refl; each = table.each }
+
 -- another fact of the same rows
 pub table_to : {R : Type 0} {n : ℕ} {P Q : ℕ → R → Type 0} {rows : List R} → IsTable n P rows → ((c : ℕ) (r : R) → P c r → Q c r) → IsTable n Q rows
 table_to table to = record { sized = table.sized; each = (λ c d within. to c _ (table.each c d within)) }

@@ -1,5 +1,5 @@
 -- What is looked for in a closed journal and its `connection` lines.
-use Rattle.std.specs.Prelude.{◌≡◌, ◌<◌, ⊤, List, [], ◌∷◌}
+use Rattle.std.specs.Prelude.{◌≡◌, ◌<◌, ⊤, List, [], ◌∷◌, length}
 use Rattle.authority_model.specs.declared.journal.Item.{Item}
 use Rattle.authority_model.specs.Lists.{Each}
 use Rattle.journal_scan.specs.declared.lines.ConnectionLine.{ConnectionLine}
@@ -32,5 +32,9 @@ pub record IsOrderly (lines : List ConnectionLine) (past : List Item) : Type 0 w
 
 -- The counts are those of a journal: for each connection by its number, and for all.
 pub record AreCounts (past : List Item) (counts : Counts) : Type 0 where
-  pub tallies : IsTable PLACES (λ c tally. tally ≡ tally_of past c) counts.tallies.items
+  pub tallies : IsTable (length counts.tallies.items) (λ c tally. tally ≡ tally_of past c) counts.tallies.items
   pub totals : counts.totals ≡ totals_of past
+
+-- each line has its row of counts
+abbrev pub HaveRows : List ConnectionLine → Counts → Type 0
+HaveRows lines counts = Each (λ l. l.number < length counts.tallies.items) lines

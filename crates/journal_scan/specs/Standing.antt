@@ -14,7 +14,6 @@ use Rattle.journal_scan.specs.declared.callers.Stage.TheVariants.{Unseen, Live, 
 use Rattle.journal_scan.specs.declared.collects.Collection.{Collection}
 use Rattle.journal_scan.specs.declared.counts.Tally.{Tally}
 use Rattle.journal_scan.specs.declared.counts.Totals.{Totals}
-use Rattle.journal_scan.specs.declared.counts.TheConstants.{PLACES}
 use Rattle.journal_scan.specs.declared.lines.ConnectionLine.{ConnectionLine}
 use Rattle.journal_scan.specs.declared.loading.Loading.{Loading}
 use Rattle.journal_scan.specs.declared.scan.Scan.{Scan}
@@ -40,10 +39,10 @@ abbrev pub place_of : List ConnectionLine → List Item → ℕ → Place
 place_of lines past c = record { uid = uid_on lines c; stage = stage_of past c }
 
 -- Some lines were taken: their numbers differ and are in the table, and each has its place there.
-pub record AreMarked (lines : List ConnectionLine) (callers : Callers) : Type 0 where
+pub record AreMarked (size : ℕ) (lines : List ConnectionLine) (callers : Callers) : Type 0 where
   pub differ : NumbersDiffer lines
-  pub few : Each (λ l. l.number < PLACES) lines
-  pub marked : IsTable PLACES (λ c place. place ≡ place_of lines [] c) callers.places.items
+  pub few : Each (λ l. l.number < size) lines
+  pub marked : IsTable size (λ c place. place ≡ place_of lines [] c) callers.places.items
 
 -- what is kept of all entries
 abbrev pub loading_of : List Item → Loading
@@ -77,11 +76,11 @@ pub record IsCollection (past : List Item) (c : ℕ) (row : Collection) : Type 0
   pub ended : row.ended ≡ had_nothing past c
 
 -- What is kept stands for the entries so far, and these are orderly.
-pub record Stands (lines : List ConnectionLine) (past : List Item) (scan : Scan) : Type 0 where
-  pub callers : IsTable PLACES (λ c place. place ≡ place_of lines past c) scan.callers.places.items
+pub record Stands (size : ℕ) (lines : List ConnectionLine) (past : List Item) (scan : Scan) : Type 0 where
+  pub callers : IsTable size (λ c place. place ≡ place_of lines past c) scan.callers.places.items
   pub loading : scan.loading ≡ loading_of past
-  pub collects : IsTable PLACES (IsCollection past) scan.collects.rows.items
-  pub tallies : IsTable PLACES (λ c tally. tally ≡ tally_of past c) scan.tallies.rows.items
+  pub collects : IsTable size (IsCollection past) scan.collects.rows.items
+  pub tallies : IsTable size (λ c tally. tally ≡ tally_of past c) scan.tallies.rows.items
   pub belong : EachItem (Belongs lines) past
   pub due : EachItem (IsDue lines) past
   pub empty : EachItem IsOnlyEmpty past

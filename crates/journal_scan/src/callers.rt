@@ -1,5 +1,5 @@
 // Whose entries a journal has.
-ghost use Rattle.std.specs.Prelude.{◌≡◌, ◌<◌, ◌∷◌, ◌++◌, [], List, None, IfOk, IsTrue, is_some};
+ghost use Rattle.std.specs.Prelude.{◌≡◌, ◌<◌, ℕ, ◌∷◌, ◌++◌, [], List, None, IfOk, IsTrue, is_some, length};
 ghost use Rattle.authority_model.specs.declared.journal.Item.{Item};
 ghost use Rattle.authority_model.specs.Lists.{Each};
 ghost use Rattle.journal_scan.specs.declared.lines.ConnectionLine.{ConnectionLine as TheLine};
@@ -8,7 +8,6 @@ ghost use Rattle.journal_scan.specs.Lines.{NumbersDiffer, uid_on};
 ghost use Rattle.journal_scan.specs.Standing.{place_of, stage_after};
 ghost use Rattle.journal_scan.specs.Tables.{IsTable};
 
-use crate::counts::PLACES;
 use crate::lines::ConnectionLine;
 use authority_model::{Entry, Event};
 use pk_types::NoMemory;
@@ -111,21 +110,21 @@ pub(crate) struct Callers {
 }
 
 impl Callers {
-    /// Of no lines and no entries.
-    pub(crate) fn new(alloc: Global) -> Result<Callers, NoMemory>
-        ensures empty { IfOk result (λ callers. IsTable PLACES (λ c place. place ≡ place_of [] [] c) callers.places.items) }
+    /// Of no lines and no entries, for so many numbers.
+    pub(crate) fn new(alloc: Global, size: usize) -> Result<Callers, NoMemory>
+        ensures empty { IfOk result (λ callers. IsTable size (λ c place. place ≡ place_of [] [] c) callers.places.items) }
     {
-        let places = vec![in alloc; Place::EMPTY; PLACES]?;
+        let places = vec![in alloc; Place::EMPTY; size]?;
         Ok(Callers { places })
     }
 
     /// Takes a line. Its number may have none yet.
     fn mark(&mut self, line: ConnectionLine) -> bool
-        ensures marked { IsTrue result → (lines : List TheLine)
-            → IsTable PLACES (λ c place. place ≡ place_of lines [] c) self.old.places.items
-            → (line.number < PLACES)
+        ensures marked { IsTrue result → (size : ℕ) (lines : List TheLine)
+            → IsTable size (λ c place. place ≡ place_of lines [] c) self.old.places.items
+            → (line.number < size)
             × (uid_on lines line.number ≡ None)
-            × IsTable PLACES (λ c place. place ≡ place_of (lines ++ line ∷ []) [] c) self.new.places.items }
+            × IsTable size (λ c place. place ≡ place_of (lines ++ line ∷ []) [] c) self.new.places.items }
     {
         let at = line.number as usize;
         if at >= self.places.len() || self.places[at].uid.is_some() {
@@ -137,10 +136,10 @@ impl Callers {
 
     /// Takes all lines. Their numbers have to differ.
     pub(crate) fn mark_all(&mut self, lines: &[ConnectionLine]) -> bool
-        requires empty { IsTable PLACES (λ c place. place ≡ place_of [] [] c) self.old.places.items }
+        requires empty { IsTable (length self.old.places.items) (λ c place. place ≡ place_of [] [] c) self.old.places.items }
         ensures differ { IsTrue result → NumbersDiffer lines.now }
-        ensures few { IsTrue result → Each (λ l. l.number < PLACES) lines.now }
-        ensures marked { IsTrue result → IsTable PLACES (λ c place. place ≡ place_of lines.now [] c) self.new.places.items }
+        ensures few { IsTrue result → Each (λ l. l.number < length self.old.places.items) lines.now }
+        ensures marked { IsTrue result → IsTable (length self.old.places.items) (λ c place. place ≡ place_of lines.now [] c) self.new.places.items }
     {
         for line in lines {
             if !self.mark(*line) {
@@ -152,7 +151,7 @@ impl Callers {
 
     /// Whether a connection has a line.
     pub(crate) fn has_line(&self, number: u32) -> bool
-        ensures line { (lines : List TheLine) (past : List Item) → number < PLACES → IsTable PLACES (λ c place. place ≡ place_of lines past c) self.now.places.items → result ≡ is_some (uid_on lines number) }
+        ensures line { (size : ℕ) (lines : List TheLine) (past : List Item) → number < size → IsTable size (λ c place. place ≡ place_of lines past c) self.now.places.items → result ≡ is_some (uid_on lines number) }
     {
         match self.places.get(number as usize) {
             Some(place) => place.uid.is_some(),
@@ -163,9 +162,9 @@ impl Callers {
     /// Takes the next entry. It has to belong to a connection with a line, in its turn, or to the
     /// server.
     pub(crate) fn enter(&mut self, entry: &Entry) -> bool
-        ensures belongs { IsTrue result → (lines : List TheLine) (past : List Item) (i : Item) → i.entry ≡ entry.now
-            → IsTable PLACES (λ c place. place ≡ place_of lines past c) self.old.places.items
-            → (entry.now.caller < PLACES) × Belongs lines past i × IsTable PLACES (λ c place. place ≡ place_of lines (i ∷ past) c) self.new.places.items }
+        ensures belongs { IsTrue result → (size : ℕ) (lines : List TheLine) (past : List Item) (i : Item) → i.entry ≡ entry.now
+            → IsTable size (λ c place. place ≡ place_of lines past c) self.old.places.items
+            → (entry.now.caller < size) × Belongs lines past i × IsTable size (λ c place. place ≡ place_of lines (i ∷ past) c) self.new.places.items }
     {
         let at = entry.caller as usize;
         if at >= self.places.len() {

@@ -7,7 +7,7 @@ ghost use Rattle.journal_scan.specs.Counts.{tally_of};
 ghost use Rattle.journal_scan.specs.Standing.{IsCollection, collected_in};
 ghost use Rattle.journal_scan.specs.Tables.{IsTable};
 
-use crate::counts::{PLACES, Tallies};
+use crate::counts::Tallies;
 use authority_model::{Entry, Event};
 use pk_types::NoMemory;
 use std::alloc::Global;
@@ -69,22 +69,22 @@ pub(crate) struct Collects {
 }
 
 impl Collects {
-    /// Of no entries.
-    pub(crate) fn new(alloc: Global) -> Result<Collects, NoMemory>
-        ensures empty { IfOk result (λ collects. IsTable PLACES (IsCollection []) collects.rows.items) }
+    /// Of no entries, for so many numbers.
+    pub(crate) fn new(alloc: Global, size: usize) -> Result<Collects, NoMemory>
+        ensures empty { IfOk result (λ collects. IsTable size (IsCollection []) collects.rows.items) }
     {
-        let rows = vec![in alloc; Collection::NOTHING; PLACES]?;
+        let rows = vec![in alloc; Collection::NOTHING; size]?;
         Ok(Collects { rows })
     }
 
     /// Takes a Collect of a connection, to which there were these outputs. No caller may collect
     /// nothing twice.
     fn collect(&mut self, caller: u32, of: u32, outputs: u64) -> bool
-        ensures only { IsTrue result → (past : List Item) (i : Item) → i.entry.caller ≡ caller
+        ensures only { IsTrue result → (size : ℕ) (past : List Item) (i : Item) → i.entry.caller ≡ caller
             → i.entry.event ≡ Event.Collect of
             → outputs ≡ sent past of
-            → IsTable PLACES (IsCollection past) self.old.rows.items
-            → IsOnlyEmpty past i × IsTable PLACES (IsCollection (i ∷ past)) self.new.rows.items }
+            → IsTable size (IsCollection past) self.old.rows.items
+            → IsOnlyEmpty past i × IsTable size (IsCollection (i ∷ past)) self.new.rows.items }
     {
         let at = caller as usize;
         if at >= self.rows.len() {
@@ -100,10 +100,10 @@ impl Collects {
     /// Takes the next entry, before which there were these outputs. No caller may collect nothing
     /// twice.
     pub(crate) fn enter(&mut self, entry: &Entry, tallies: &Tallies) -> bool
-        ensures only { IsTrue result → (past : List Item) (i : Item) → i.entry ≡ entry.now
-            → IsTable PLACES (λ c tally. tally ≡ tally_of past c) tallies.now.rows.items
-            → IsTable PLACES (IsCollection past) self.old.rows.items
-            → IsOnlyEmpty past i × IsTable PLACES (IsCollection (i ∷ past)) self.new.rows.items }
+        ensures only { IsTrue result → (size : ℕ) (past : List Item) (i : Item) → i.entry ≡ entry.now
+            → IsTable size (λ c tally. tally ≡ tally_of past c) tallies.now.rows.items
+            → IsTable size (IsCollection past) self.old.rows.items
+            → IsOnlyEmpty past i × IsTable size (IsCollection (i ∷ past)) self.new.rows.items }
     {
         match entry.event {
             Event::Collect { of } => match tallies.answers(of) {

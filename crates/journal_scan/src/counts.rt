@@ -65,17 +65,17 @@ fn is_message(event: &Event) -> bool
 }
 
 impl Tallies {
-    /// Of no entries.
-    pub(crate) fn new(alloc: Global) -> Result<Tallies, NoMemory>
-        ensures empty { IfOk result (λ tallies. IsTable PLACES (λ c tally. tally ≡ tally_of [] c) tallies.rows.items) }
+    /// Of no entries, for so many numbers.
+    pub(crate) fn new(alloc: Global, size: usize) -> Result<Tallies, NoMemory>
+        ensures empty { IfOk result (λ tallies. IsTable size (λ c tally. tally ≡ tally_of [] c) tallies.rows.items) }
     {
-        let rows = vec![in alloc; Tally::NOTHING; PLACES]?;
+        let rows = vec![in alloc; Tally::NOTHING; size]?;
         Ok(Tallies { rows })
     }
 
     /// How many outputs to a connection were counted, and `None` of one without a row.
     pub(crate) fn answers(&self, number: u32) -> Option<u64>
-        ensures answers { IfSome result (λ answers. (past : List Item) → IsTable PLACES (λ c tally. tally ≡ tally_of past c) self.now.rows.items → answers ≡ sent past number) }
+        ensures answers { IfSome result (λ answers. (size : ℕ) (past : List Item) → IsTable size (λ c tally. tally ≡ tally_of past c) self.now.rows.items → answers ≡ sent past number) }
     {
         let at = number as usize;
         if at >= self.rows.len() {
@@ -86,7 +86,7 @@ impl Tallies {
 
     /// Counts an output. One to a connection without a row is not counted.
     fn count_output(&mut self, to: u32) -> bool
-        ensures counted { IsTrue result → (f : ℕ → TheTally) → IsTable PLACES (λ c tally. tally ≡ f c) self.old.rows.items → IsTable PLACES (λ c tally. tally ≡ with_answers (f c) (if to == c then 1 else 0)) self.new.rows.items }
+        ensures counted { IsTrue result → (size : ℕ) (f : ℕ → TheTally) → IsTable size (λ c tally. tally ≡ f c) self.old.rows.items → IsTable size (λ c tally. tally ≡ with_answers (f c) (if to == c then 1 else 0)) self.new.rows.items }
     {
         let at = to as usize;
         if at >= self.rows.len() {
@@ -101,7 +101,7 @@ impl Tallies {
 
     /// Counts outputs.
     fn count_outputs(&mut self, outputs: &[Output]) -> bool
-        ensures counted { IsTrue result → (f : ℕ → TheTally) → IsTable PLACES (λ c tally. tally ≡ f c) self.old.rows.items → IsTable PLACES (λ c tally. tally ≡ with_answers (f c) (count_to c outputs.now)) self.new.rows.items }
+        ensures counted { IsTrue result → (size : ℕ) (f : ℕ → TheTally) → IsTable size (λ c tally. tally ≡ f c) self.old.rows.items → IsTable size (λ c tally. tally ≡ with_answers (f c) (count_to c outputs.now)) self.new.rows.items }
     {
         for output in outputs {
             if !self.count_output(output.to) {
@@ -113,10 +113,10 @@ impl Tallies {
 
     /// Counts the event of a caller.
     fn count_event(&mut self, caller: u32, event: &Event) -> bool
-        ensures counted { IsTrue result → (past : List Item) (i : Item) → i.entry.caller ≡ caller
+        ensures counted { IsTrue result → (size : ℕ) (past : List Item) (i : Item) → i.entry.caller ≡ caller
             → i.entry.event ≡ event.now
-            → IsTable PLACES (λ c tally. tally ≡ tally_of past c) self.old.rows.items
-            → IsTable PLACES (λ c tally. tally ≡ record { messages = messages_of (i ∷ past) c; answers = sent past c }) self.new.rows.items }
+            → IsTable size (λ c tally. tally ≡ tally_of past c) self.old.rows.items
+            → IsTable size (λ c tally. tally ≡ record { messages = messages_of (i ∷ past) c; answers = sent past c }) self.new.rows.items }
     {
         let at = caller as usize;
         if at >= self.rows.len() || !is_message(event) {
@@ -131,9 +131,9 @@ impl Tallies {
 
     /// Counts the next entry.
     pub(crate) fn enter(&mut self, entry: &Entry) -> bool
-        ensures counted { IsTrue result → (past : List Item) (i : Item) → i.entry ≡ entry.now
-            → IsTable PLACES (λ c tally. tally ≡ tally_of past c) self.old.rows.items
-            → IsTable PLACES (λ c tally. tally ≡ tally_of (i ∷ past) c) self.new.rows.items }
+        ensures counted { IsTrue result → (size : ℕ) (past : List Item) (i : Item) → i.entry ≡ entry.now
+            → IsTable size (λ c tally. tally ≡ tally_of past c) self.old.rows.items
+            → IsTable size (λ c tally. tally ≡ tally_of (i ∷ past) c) self.new.rows.items }
     {
         if !self.count_event(entry.caller, &entry.event) {
             return false;

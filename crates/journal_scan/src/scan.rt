@@ -1,14 +1,14 @@
 // The walk over a journal.
-ghost use Rattle.std.specs.Prelude.{◌≡◌, ◌∷◌, [], List, IfOk, IfSome, IsTrue};
+ghost use Rattle.std.specs.Prelude.{◌≡◌, ◌≤◌, ℕ, ◌∷◌, [], List, IfOk, IfSome, IsTrue};
 ghost use Rattle.authority_model.specs.declared.journal.Item.{Item};
 ghost use Rattle.authority_model.specs.Items.{items_of};
 ghost use Rattle.journal_scan.specs.declared.lines.ConnectionLine.{ConnectionLine as TheLine};
-ghost use Rattle.journal_scan.specs.Orderly.{AreCounts, IsOrderly};
+ghost use Rattle.journal_scan.specs.Orderly.{AreCounts, HaveRows, IsOrderly};
 ghost use Rattle.journal_scan.specs.Standing.{Stands};
 
 use crate::callers::Callers;
 use crate::collects::Collects;
-use crate::counts::{Counts, Tallies};
+use crate::counts::{Counts, PLACES, Tallies};
 use crate::lines::ConnectionLine;
 use crate::loading::Loading;
 use authority_model::{Entry, History};
@@ -29,7 +29,7 @@ impl Scan {
 
     /// Takes the next entry.
     fn enter(&mut self, entry: &Entry) -> bool
-        ensures stands { IsTrue result → (lines : List TheLine) (past : List Item) (i : Item) → i.entry ≡ entry.now → Stands lines past self.old → Stands lines (i ∷ past) self.new }
+        ensures stands { IsTrue result → (size : ℕ) (lines : List TheLine) (past : List Item) (i : Item) → i.entry ≡ entry.now → Stands size lines past self.old → Stands size lines (i ∷ past) self.new }
     {
         if !self.callers.enter(entry) {
             return false;
@@ -46,7 +46,7 @@ impl Scan {
 
     /// Takes all entries of a journal, from the first to the last.
     fn walk(&mut self, history: &History) -> bool
-        ensures stands { IsTrue result → (lines : List TheLine) → Stands lines [] self.old → Stands lines (items_of history.now) self.new }
+        ensures stands { IsTrue result → (size : ℕ) (lines : List TheLine) → Stands size lines [] self.old → Stands size lines (items_of history.now) self.new }
     {
         let entries = history.entries.as_slice();
         for entry in entries {
@@ -58,8 +58,19 @@ impl Scan {
     }
 }
 
+/// How many numbers have rows: all up to the greatest of a line or of a caller.
+fn size_for(history: &History, lines: &[ConnectionLine]) -> usize
+    ensures few { result ≤ PLACES }
+{
+    let of_lines = lines.iter().map(|line| line.number).max().unwrap_or(0);
+    let entries = history.entries.as_slice();
+    let of_callers = entries.iter().map(|entry| entry.caller).max().unwrap_or(0);
+    (of_lines.max(of_callers) as usize + 1).min(PLACES)
+}
+
 /// Looks whether a closed journal is orderly for its `connection` lines, and counts what the printed
-/// lines tell. Its time is linear in the entries, the outputs and the lines.
+/// lines tell. Its time is linear in the entries, the outputs and the lines, and its memory in the
+/// greatest number of a caller.
 ///
 /// `None` is a journal or a list of lines in which one of the facts was not found. (Besides, it is one
 /// of a caller at or above `PLACES`, one whose callers collect of more than one connection each, and
@@ -69,11 +80,12 @@ pub fn scan_journal(
     history: &History,
     lines: &[ConnectionLine],
 ) -> Result<Option<Counts>, NoMemory>
-    ensures found { IfOk result (λ found. IfSome found (λ counts. IsOrderly lines.now (items_of history.now) × AreCounts (items_of history.now) counts)) }
+    ensures found { IfOk result (λ found. IfSome found (λ counts. IsOrderly lines.now (items_of history.now) × AreCounts (items_of history.now) counts × HaveRows lines.now counts)) }
 {
-    let mut callers = Callers::new(alloc)?;
-    let collects = Collects::new(alloc)?;
-    let tallies = Tallies::new(alloc)?;
+    let size = size_for(history, lines);
+    let mut callers = Callers::new(alloc, size)?;
+    let collects = Collects::new(alloc, size)?;
+    let tallies = Tallies::new(alloc, size)?;
     if !callers.mark_all(lines) {
         return Ok(None);
     }

@@ -4,5 +4,5 @@ use Rattle.journal_scan.proofs.callers.Callers.mark.Goals as goal
 
 pub returns : goal.returns
 returns c = record {
-  marked = (λ yes lines table. line_taken lines c.args.line c.args.self.now.places.items c.index_mut.result.now table (search rules) (search rules) (search rules));
+  marked = (λ yes size lines table. line_taken size lines c.args.line c.args.self.now.places.items c.index_mut.result.now table (search rules) (search rules) (search rules));
 }

@@ -1,10 +1,9 @@
 use Rattle.std.proofs.Common.{◌≡◌, ℕ, take}
 use Rattle.authority_model.specs.Items.{count_to}
 use Rattle.journal_scan.specs.declared.counts.Tally.{Tally}
-use Rattle.journal_scan.specs.declared.counts.TheConstants.{PLACES}
 use Rattle.journal_scan.specs.Standing.{with_answers}
 use Rattle.journal_scan.specs.Tables.{IsTable}
 use Rattle.journal_scan.proofs.counts.Tallies.count_outputs.Given as goal
 
 abbrev pub invariant-loop-output : goal.invariant-loop-output
-invariant-loop-output l = (f : ℕ → Tally) → IsTable PLACES (λ c tally. tally ≡ f c) l.initial.self.rows.items → IsTable PLACES (λ c tally. tally ≡ with_answers (f c) (count_to c (take l.output-index l.outputs))) l.self.rows.items
+invariant-loop-output l = (size : ℕ) (f : ℕ → Tally) → IsTable size (λ c tally. tally ≡ f c) l.initial.self.rows.items → IsTable size (λ c tally. tally ≡ with_answers (f c) (count_to c (take l.output-index l.outputs))) l.self.rows.items

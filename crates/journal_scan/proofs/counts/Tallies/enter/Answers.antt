@@ -10,9 +10,9 @@ use Rattle.journal_scan.proofs.counts.Tallies.enter.Goals as goal
 
 pub returns : goal.returns
 returns c = record {
-  counted = (λ yes past i same table.
+  counted = (λ yes size past i same table.
       let f : ℕ → Tally = λ n. record { messages = messages_of (i ∷ past) n; answers = sent past n } in
-      let event = c.if-not-count_event.ensures.counted refl past i (ap (λ (e : Entry). e.caller) same) (ap (λ (e : Entry). e.event) same) table in
+      let event = c.if-not-count_event.ensures.counted refl size past i (ap (λ (e : Entry). e.caller) same) (ap (λ (e : Entry). e.event) same) table in
       let outputs : c.as_slice.result.now ≡ i.entry.outputs = c.as_slice.ensures.items ∙ ap (λ (e : Entry). e.outputs) (sym same) in
-      table_to (c.count_outputs.ensures.counted yes f event) (λ n tally is. is ∙ ap (λ (l : List Output). with_answers (f n) (count_to n l)) outputs));
+      table_to (c.count_outputs.ensures.counted yes size f event) (λ n tally is. is ∙ ap (λ (l : List Output). with_answers (f n) (count_to n l)) outputs));
 }

@@ -3,16 +3,16 @@ use Rattle.journal_scan.proofs.scan.Scan.enter.Goals as goal
 
 pub returns : goal.returns
 returns c = record {
-  stands = (λ yes lines past i same old.
-      let placed = c.if-not-enter.ensures.belongs refl lines past i same old.callers in
-      let lined = c.has_line-lined.ensures.line lines (i ∷ past) placed.0 placed.2 in
+  stands = (λ yes size lines past i same old.
+      let placed = c.if-not-enter.ensures.belongs refl size lines past i same old.callers in
+      let lined = c.has_line-lined.ensures.line size lines (i ∷ past) placed.0 placed.2 in
       let due = c.if-not-enter-2.ensures.due refl lines past i same old.loading lined in
-      let only = c.if-not-enter-3.ensures.only refl past i same old.tallies old.collects in
+      let only = c.if-not-enter-3.ensures.only refl size past i same old.tallies old.collects in
       record {
         callers = placed.2;
         loading = due.1;
         collects = only.1;
-        tallies = c.enter-4.ensures.counted yes past i same old.tallies;
+        tallies = c.enter-4.ensures.counted yes size past i same old.tallies;
         belong = (placed.1, old.belong);
         due = (due.0, old.due);
         empty = (only.0, old.empty);

@@ -7,7 +7,7 @@ use Rattle.journal_scan.specs.Standing.{Stands}
 use Rattle.journal_scan.proofs.scan.Scan.walk.Goals as goal
 
 pub loop-entry-preserved : goal.loop-entry-preserved
-loop-entry-preserved c = λ lines start.
+loop-entry-preserved c = λ size lines start.
     let history = c.args.history.now in
     let k = c.loop-entry.entry-index in
     let e = c.entry-item.result in
@@ -15,14 +15,14 @@ loop-entry-preserved c = λ lines start.
     let inside : k < length history.entries = subst (λ (l : List Entry). k < length l) same c.loop-entry-test.true in
     let next = before_next history k e inside (c.entry-item.is ∙ ap (λ (l : List Entry). get_or l k e) same) in
     let i : Item = record { entry = e; loaded = next.0 } in
-    let more = c.if-not-enter.ensures.stands refl lines (before history k) i refl (c.loop-entry.invariant lines start) in
-    subst (λ (l : List Item). Stands lines l c.enter.new.self) (sym next.1) more
+    let more = c.if-not-enter.ensures.stands refl size lines (before history k) i refl (c.loop-entry.invariant size lines start) in
+    subst (λ (l : List Item). Stands size lines l c.enter.new.self) (sym next.1) more
 
 pub returns : goal.returns
 returns c = record {
-  stands = (λ yes lines start.
+  stands = (λ yes size lines start.
       let history = c.args.history.now in
       let k = c.loop-entry.entry-index in
       let all : length history.entries ≤ k = subst (λ (l : List Entry). length l ≤ k) c.as_slice-entries.ensures.items c.loop-entry-test.false in
-      subst (λ (l : List Item). Stands lines l c.loop-entry.self) (before_end history k all) (c.loop-entry.invariant lines start));
+      subst (λ (l : List Item). Stands size lines l c.loop-entry.self) (before_end history k all) (c.loop-entry.invariant size lines start));
 }
