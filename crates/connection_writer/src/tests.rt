@@ -100,15 +100,18 @@ fn write_the_same_at_desk<L: LimitsName, T: TableName, R: Wait + Abort>(
     wanted: &[u8],
 ) -> Result<(), Fail>
     requires fresh { NoneBy caller_of collector.old.number collector.old.history }
-    requires of { pass.old.number ≢ 0 }
 {
     let by = collector.number();
+    let of = pass.number();
+    if of == 0 {
+        return Err(Fail::from("a connection"));
+    }
     let mut sink = ByteSink::new(alloc, 4096, 100, Vec::new(alloc))?;
     let writer = Writer {
         pass: collector,
         sink: &mut sink,
         alloc,
-        of: pass.number(),
+        of,
         end: None,
     };
     let writer = write_at_desk::<L, T, ByteSink, Brand, R>(rt, shared, pass, writer, by)?;
