@@ -17,12 +17,15 @@ use crate::view::{LockSeat, LockTable};
 use crate::woken::Whom;
 use pk_types::NoMemory;
 use std::alloc::Global;
-use std::hint;
 use std::marker::{Model, PhantomData};
 use std::sync::{Mutex, MutexGuard, Wait};
+use std::thread;
 
-/// How often a call looks for the lock before it sleeps until the lock is free.
-const LOOKS: u32 = 1000;
+/// How often a call looks for the lock before it lets other threads run.
+const LOOKS: u32 = 20;
+
+/// How often it lets them run before it sleeps until the lock is free.
+const YIELDS: u32 = 100;
 
 /// A table that was just opened, for one lock. Contracts see its name.
 #[derive(Drop)]
@@ -241,16 +244,28 @@ impl<M: Machine, T: TableName> HistoryLock<M, T> {
             .wait_while(rt, self.take(rt), |l| l.waits(caller, op))
     }
 
-    /// Takes the lock. Each call holds it for some microseconds only, so it is worth some looks
-    /// before this thread sleeps.
+    /// Takes the lock. Each call holds it for some microseconds only, so this thread looks again and
+    /// again, and lets others run in between: whoever holds the lock may be one that has to run on.
+    /// It sleeps only where that was in vain, since a lock that is left to a sleeping thread is idle
+    /// until that one runs.
     fn take<R: Wait>(&self, rt: &R) -> MutexGuard<'_, Locked<M, T>> {
-        for _look in 0..LOOKS {
-            if let Some(locked) = self.locked.try_lock() {
+        for _turn in 0..YIELDS {
+            if let Some(locked) = self.look() {
                 return locked;
             }
-            hint::spin_loop();
+            thread::yield_now();
         }
         self.locked.lock(rt)
+    }
+
+    /// Takes the lock, if it is free within some looks.
+    fn look(&self) -> Option<MutexGuard<'_, Locked<M, T>>> {
+        for _look in 0..LOOKS {
+            if let Some(locked) = self.locked.try_lock() {
+                return Some(locked);
+            }
+        }
+        None
     }
 
     /// Calls the machine while the lock is held, lets the lock go, and wakes whom the call wakes.
