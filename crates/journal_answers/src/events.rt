@@ -1,5 +1,5 @@
 // The outputs of each event.
-ghost use Rattle.std.specs.Prelude.{◌≡◌, ◌≤◌, ◌++◌, ◌+◌, ℕ, List, Some, None, OnOk, IfOk};
+ghost use Rattle.std.specs.Prelude.{◌≡◌, ◌≤◌, ◌++◌, ◌+◌, ℕ, List, Some, None, OnOk, IfOk, []};
 ghost use Rattle.authority_model.specs.declared.event.Event.TheVariants.{Load, Call as Called, Returned, AgentError, Depart};
 ghost use Rattle.authority_model.specs.declared.journal.Item.{Item};
 ghost use Rattle.authority_model.specs.declared.load.Loaded.{Loaded as TheLoaded};
@@ -124,6 +124,17 @@ fn answer(
     }
 }
 
+/// A list for the outputs of an event. Most calls have one output, the answer, and an entry is kept
+/// for good: so there is room for just one.
+fn no_outputs(alloc: Global, event: &Event) -> Result<OutputList, NoMemory>
+    ensures empty { IfOk result (λ outputs. outputs ≡ []) }
+{
+    match event {
+        Event::Call { .. } => Ok(List::from_vec(Vec::with_capacity(alloc, 1)?)),
+        _ => Ok(List::new(alloc)),
+    }
+}
+
 /// The outputs of an event of a caller, by the state of the history before it and the load in
 /// force, which is the last of so many. Its moment is not before the last one. Loads are answered
 /// by `load_outputs`.
@@ -156,7 +167,7 @@ pub fn outputs(
         moment,
         salt,
     };
-    let mut outputs = List::new(alloc);
+    let mut outputs = no_outputs(alloc, event)?;
     answer(&mut outputs, &context, caller, event)?;
     Ok(outputs)
 }
