@@ -1,5 +1,5 @@
 -- The counts of the printed lines.
-use Rattle.std.specs.Prelude.{ℕ, ◌+◌, Bool, true, false, ◌&&◌, if◌then◌else◌, List, [], ◌∷◌, length}
+use Rattle.std.specs.Prelude.{◌≡◌, ◌≤◌, ℕ, ◌+◌, Bool, true, false, ◌&&◌, if◌then◌else◌, List, [], ◌∷◌, length}
 use Rattle.authority_model.specs.declared.event.Event.{Event}
 use Rattle.authority_model.specs.declared.event.Event.TheVariants.{Connect, Depart}
 use Rattle.authority_model.specs.declared.journal.Item.{Item}
@@ -27,6 +27,10 @@ messages_of past c = how_many (λ i. is_by c i && is_message i.entry.event) past
 -- what is counted of a connection: the entries of its messages, and the outputs to it
 abbrev pub tally_of : List Item → ℕ → Tally
 tally_of past c = record { messages = messages_of past c; answers = sent past c }
+
+-- nothing is counted of a number at or above this one: it has no entries of messages, and no outputs
+abbrev pub NothingFrom : List Item → ℕ → Type 0
+NothingFrom past size = (c : ℕ) → size ≤ c → tally_of past c ≡ record { messages = 0; answers = 0 }
 
 -- what is counted of all: the entries, the loads, the refused loads, and the loads that were wanted before the Stop
 abbrev pub totals_of : List Item → Totals

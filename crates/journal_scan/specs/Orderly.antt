@@ -7,7 +7,7 @@ use Rattle.journal_scan.specs.declared.counts.Counts.{Counts}
 use Rattle.journal_scan.specs.declared.counts.TheConstants.{PLACES}
 use Rattle.journal_scan.specs.Callers.{Belongs}
 use Rattle.journal_scan.specs.Collecting.{IsOnlyEmpty}
-use Rattle.journal_scan.specs.Counts.{tally_of, totals_of}
+use Rattle.journal_scan.specs.Counts.{NothingFrom, tally_of, totals_of}
 use Rattle.journal_scan.specs.Lines.{NumbersDiffer}
 use Rattle.journal_scan.specs.Loading.{IsDue}
 use Rattle.journal_scan.specs.Tables.{IsTable}
@@ -30,9 +30,13 @@ pub record IsOrderly (lines : List ConnectionLine) (past : List Item) : Type 0 w
   -- no caller has two Collects with an empty batch
   pub empty : EachItem IsOnlyEmpty past
 
--- The counts are those of a journal: for each connection by its number, and for all.
+-- The counts are those of a journal: for each number, and for all.
 pub record AreCounts (past : List Item) (counts : Counts) : Type 0 where
+  -- each number with a row has what the row tells
   pub tallies : IsTable (length counts.tallies.items) (λ c tally. tally ≡ tally_of past c) counts.tallies.items
+  -- each number beyond the rows has no entries of messages and no outputs
+  pub others : NothingFrom past (length counts.tallies.items)
+  -- what is counted of all entries
   pub totals : counts.totals ≡ totals_of past
 
 -- each line has its row of counts

@@ -19,7 +19,7 @@ use Rattle.journal_scan.specs.declared.loading.Loading.{Loading}
 use Rattle.journal_scan.specs.declared.scan.Scan.{Scan}
 use Rattle.journal_scan.specs.Callers.{Belongs}
 use Rattle.journal_scan.specs.Collecting.{IsOnlyEmpty, had_nothing}
-use Rattle.journal_scan.specs.Counts.{how_many, tally_of}
+use Rattle.journal_scan.specs.Counts.{NothingFrom, how_many, tally_of}
 use Rattle.journal_scan.specs.Lines.{NumbersDiffer, uid_on}
 use Rattle.journal_scan.specs.Loading.{IsDue, has_stop, is_failed_load, loads_due, loads_ended, loads_wanted}
 use Rattle.journal_scan.specs.Orderly.{EachItem}
@@ -81,6 +81,7 @@ pub record Stands (size : ℕ) (lines : List ConnectionLine) (past : List Item) 
   pub loading : scan.loading ≡ loading_of past
   pub collects : IsTable size (IsCollection past) scan.collects.rows.items
   pub tallies : IsTable size (λ c tally. tally ≡ tally_of past c) scan.tallies.rows.items
+  pub others : NothingFrom past size
   pub belong : EachItem (Belongs lines) past
   pub due : EachItem (IsDue lines) past
   pub empty : EachItem IsOnlyEmpty past

@@ -1,5 +1,5 @@
 // The counts of the printed lines.
-ghost use Rattle.std.specs.Prelude.{◌≡◌, ℕ, ◌∷◌, ◌==◌, if◌then◌else◌, IfOk, IfSome, IsTrue, List, []};
+ghost use Rattle.std.specs.Prelude.{◌≡◌, ◌<◌, ◌≤◌, ℕ, ◌∷◌, ◌==◌, if◌then◌else◌, IfOk, IfSome, IsTrue, List, [], length};
 ghost use Rattle.authority_model.specs.declared.journal.Item.{Item};
 ghost use Rattle.authority_model.specs.Items.{count_to, sent};
 ghost use Rattle.journal_scan.specs.declared.counts.Tally.{Tally as TheTally};
@@ -84,13 +84,15 @@ impl Tallies {
         Some(self.rows[at].answers)
     }
 
-    /// Counts an output. One to a connection without a row is not counted.
+    /// Counts an output. One to a number without a row is refused.
     fn count_output(&mut self, to: u32) -> bool
+        ensures within { IsTrue result → to < length self.old.rows.items }
+        ensures sized { length self.new.rows.items ≡ length self.old.rows.items }
         ensures counted { IsTrue result → (size : ℕ) (f : ℕ → TheTally) → IsTable size (λ c tally. tally ≡ f c) self.old.rows.items → IsTable size (λ c tally. tally ≡ with_answers (f c) (if to == c then 1 else 0)) self.new.rows.items }
     {
         let at = to as usize;
         if at >= self.rows.len() {
-            return true;
+            return false;
         }
         match self.rows[at].answers.checked_add(1) {
             Some(answers) => self.rows[at].answers = answers,
@@ -99,8 +101,9 @@ impl Tallies {
         true
     }
 
-    /// Counts outputs.
+    /// Counts outputs. Each has to be to a number with a row.
     fn count_outputs(&mut self, outputs: &[Output]) -> bool
+        ensures within { IsTrue result → (c : ℕ) → length self.old.rows.items ≤ c → count_to c outputs.now ≡ 0 }
         ensures counted { IsTrue result → (size : ℕ) (f : ℕ → TheTally) → IsTable size (λ c tally. tally ≡ f c) self.old.rows.items → IsTable size (λ c tally. tally ≡ with_answers (f c) (count_to c outputs.now)) self.new.rows.items }
     {
         for output in outputs {
@@ -113,6 +116,7 @@ impl Tallies {
 
     /// Counts the event of a caller.
     fn count_event(&mut self, caller: u32, event: &Event) -> bool
+        ensures sized { length self.new.rows.items ≡ length self.old.rows.items }
         ensures counted { IsTrue result → (size : ℕ) (past : List Item) (i : Item) → i.entry.caller ≡ caller
             → i.entry.event ≡ event.now
             → IsTable size (λ c tally. tally ≡ tally_of past c) self.old.rows.items
@@ -129,8 +133,9 @@ impl Tallies {
         true
     }
 
-    /// Counts the next entry.
+    /// Counts the next entry. Each of its outputs has to be to a number with a row.
     pub(crate) fn enter(&mut self, entry: &Entry) -> bool
+        ensures within { IsTrue result → (c : ℕ) → length self.old.rows.items ≤ c → count_to c entry.now.outputs ≡ 0 }
         ensures counted { IsTrue result → (size : ℕ) (past : List Item) (i : Item) → i.entry ≡ entry.now
             → IsTable size (λ c tally. tally ≡ tally_of past c) self.old.rows.items
             → IsTable size (λ c tally. tally ≡ tally_of (i ∷ past) c) self.new.rows.items }

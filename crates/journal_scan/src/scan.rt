@@ -73,8 +73,9 @@ fn size_for(history: &History, lines: &[ConnectionLine]) -> usize
 /// greatest number of a caller.
 ///
 /// `None` is a journal or a list of lines in which one of the facts was not found. (Besides, it is one
-/// of a caller at or above `PLACES`, one whose callers collect of more than one connection each, and
-/// one whose counts do not fit 64 bits.)
+/// of a caller at or above `PLACES`, one with an output to a number above each line's and each
+/// caller's, one whose callers collect of more than one connection each, and one whose counts do not
+/// fit 64 bits.)
 pub fn scan_journal(
     alloc: Global,
     history: &History,

@@ -15,6 +15,8 @@ enum Kind {
     Loads,
     Stops,
     Collects(u32),
+    /// Collects of 0, with an output to this number.
+    Tells(u32),
 }
 
 /// An entry: its caller, its moment, and what it does.
@@ -51,6 +53,7 @@ fn event_of(kind: Kind) -> Event {
         Kind::Loads => Event::Load { load: 1 },
         Kind::Stops => Event::Stop,
         Kind::Collects(of) => Event::Collect { of },
+        Kind::Tells(_) => Event::Collect { of: 0 },
     }
 }
 
@@ -70,6 +73,10 @@ fn outputs_of(alloc: Global, caller: u32, kind: Kind) -> Result<OutputList, NoMe
         Kind::Stops => outputs.try_push(Output {
             to: 0,
             message: Message::StopWanted,
+        })?,
+        Kind::Tells(to) => outputs.try_push(Output {
+            to,
+            message: Message::Changed,
         })?,
         _ => {}
     }
@@ -163,6 +170,16 @@ fn finds_what_is_not_in_order(rt: HostRuntime) -> Result<(), Fail> {
         ("a second Stop", Row(3, 7, Kind::Stops), false),
         ("a second empty batch", Row(2, 7, Kind::Collects(1)), false),
         ("a moment of its own", Row(0, 8, Kind::Collects(0)), false),
+        (
+            "an output to the greatest caller",
+            Row(0, 7, Kind::Tells(3)),
+            true,
+        ),
+        (
+            "an output to a number above it",
+            Row(0, 7, Kind::Tells(4)),
+            false,
+        ),
     ];
     for (caption, row, orderly) in &rows {
         let counts = found(rt.alloc(), Some(*row), &[LINE])?;

@@ -1,4 +1,4 @@
-use Rattle.std.proofs.Common.{◌≡◌, ◌∷◌, ℕ, List, refl, sym, ap, ◌∙◌}
+use Rattle.std.proofs.Common.{◌≡◌, ◌∷◌, ℕ, List, refl, sym, ap, ◌∙◌, arith}
 use Rattle.authority_model.specs.declared.journal.Entry.{Entry}
 use Rattle.authority_model.specs.declared.message.Output.{Output}
 use Rattle.authority_model.specs.Items.{count_to, sent}
@@ -10,6 +10,7 @@ use Rattle.journal_scan.proofs.counts.Tallies.enter.Goals as goal
 
 pub returns : goal.returns
 returns c = record {
+  within = (λ yes n beyond. ap (count_to n) (sym c.as_slice.ensures.items) ∙ c.count_outputs.ensures.within yes n (omega (arith, c.if-not-count_event.ensures.sized, beyond)));
   counted = (λ yes size past i same table.
       let f : ℕ → Tally = λ n. record { messages = messages_of (i ∷ past) n; answers = sent past n } in
       let event = c.if-not-count_event.ensures.counted refl size past i (ap (λ (e : Entry). e.caller) same) (ap (λ (e : Entry). e.event) same) table in
