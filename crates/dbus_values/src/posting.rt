@@ -15,6 +15,9 @@ use crate::write::{
 use pk_types::{ByteList, NoMemory, Text};
 use std::alloc::{AllocError, Global};
 
+/// Room for the bytes of most messages, so that they seldom have to be moved.
+const MOST_ARE_SHORTER: usize = 256;
+
 /// A field of a text type, where there is one.
 fn put_text_field(
     out: &mut Vec<u8>,
@@ -134,7 +137,7 @@ pub fn write_message(alloc: Global, out: &WireOut, serial: u32) -> Result<ByteLi
 {
     let mut signature = Vec::new(alloc);
     put_types(&mut signature, &out.body)?;
-    let mut bytes = Vec::new(alloc);
+    let mut bytes = Vec::with_capacity(alloc, MOST_ARE_SHORTER)?;
     put_start(&mut bytes, out, serial)?;
     put_fields(&mut bytes, out, &signature)?;
     let fields = length_of(&bytes) - 16;

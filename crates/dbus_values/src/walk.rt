@@ -286,7 +286,7 @@ fn enter_by<'a>(
 }
 
 /// The first part of a value of any class, with the padding before it.
-#[inline(never)]
+#[inline(always)]
 fn enter_any<'a>(
     class: Class,
     limit: usize,
@@ -445,7 +445,7 @@ fn in_items<'a>(
 }
 
 /// The next part.
-#[inline(never)]
+#[inline(always)]
 #[tactic(auto, using(crate::proofs::Steps::next_rules))]
 pub fn next_in<'a>(limit: usize, big: bool, walk: &mut Walk<'a>) -> Result<Part<'a>, Fault>
     requires { limit ≤ 64 }
