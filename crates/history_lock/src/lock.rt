@@ -7,7 +7,7 @@ ghost use Rattle.history_lock.specs.Kinds.{longer_of};
 ghost use Rattle.history_lock.specs.Causes.{known_or};
 ghost use Rattle.history_lock.specs.Calls.{Learned, Answered, Refused, Admitted, NoneAdmitted};
 
-use crate::locked::{Locked, NextAnswer, settle_receipt, take_note_of_pass};
+use crate::locked::{APART, Locked, NextAnswer, settle_receipt, take_note_of_pass};
 use crate::machine::{EndCause, Machine};
 use crate::pass::{Pass, TableName};
 use crate::refused::{AdmitRefused, CallRefused};
@@ -87,6 +87,7 @@ impl<M: Machine, T: TableName> HistoryLock<M, T> {
         let Opened { table, mut book } = opened;
         let seat = steps::admit(&table, &mut book);
         let locked = Locked {
+            apart: [0; APART],
             machine,
             made: 1,
             cause: None,
@@ -346,6 +347,7 @@ impl<M: Machine, T: TableName> HistoryLock<M, T> {
             turns: _,
         } = self;
         let Locked {
+            apart: _,
             machine,
             made: _,
             cause: _,

@@ -22,6 +22,10 @@ use std::marker::{Brand, Model, PhantomData};
 /// How many passes a lock has.
 const MOST_PASSES: u32 = 1_048_576;
 
+/// So many words of eight bytes fill, with the word of the lock, a cache line and the one that is
+/// fetched with it.
+pub const APART: usize = 15;
+
 /// What a machine answers to a call that is made only where it need not wait.
 pub type NextAnswer<M> = Option<
     Result<<M as Machine>::Reply, CallRefused<<M as Machine>::Op, <M as Machine>::Refusal>>,
@@ -31,6 +35,9 @@ pub type NextAnswer<M> = Option<
 /// Contracts see the machine's entries, how many passes were made, and the kept cause.
 #[derive(Drop)]
 pub struct Locked<M: Machine, T: TableName> {
+    /// Room that keeps the word of the lock, which those that wait look at, out of the machine's
+    /// cache line.
+    pub(crate) apart: [u64; APART],
     pub(crate) machine: M,
     pub(crate) made: u32,
     pub(crate) cause: Option<EndCause>,
