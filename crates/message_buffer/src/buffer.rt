@@ -1,5 +1,5 @@
 // Bytes that were read and are not taken yet.
-ghost use Rattle.std.specs.Prelude.{◌≡◌, ◌+◌, ◌≤◌, ℕ, [], List, IsTrue, drop, length, IfOk};
+ghost use Rattle.std.specs.Prelude.{◌≡◌, ◌+◌, ◌≤◌, ℕ, [], List, IsTrue, drop, take, length, ◌-◌, IfOk};
 ghost use Rattle.pk_outside.specs.Streams.{Gave};
 ghost use Rattle.message_buffer.specs.Filling.{Brings, Fills, FillFaults, ReadFaults};
 
@@ -53,6 +53,22 @@ enum Unread {
     NoMemory,
 }
 
+/// Moves the bytes from a place on to the front. What stands behind them then says nothing.
+fn move_to_front(bytes: &mut [u8], start: usize)
+    requires within { start ≤ length bytes.old }
+    ensures moved { take (length bytes.old - start) bytes.new ≡ drop start bytes.old }
+    ensures length { length bytes.new ≡ length bytes.old }
+{
+    let left = bytes.len() - start;
+    if left > start {
+        bytes.rotate_left(start);
+        return;
+    }
+    let (taken, rest) = bytes.split_at_mut(start);
+    let (front, _) = taken.split_at_mut(left);
+    front.copy_from_slice(rest);
+}
+
 impl MessageBuffer {
     /// A buffer for which nothing was read.
     pub fn new(alloc: Global) -> Result<Self, NoMemory>
@@ -87,12 +103,13 @@ impl MessageBuffer {
         ensures same { self.new ≡ self.old }
     {
         let left = self.bytes.len() - self.start;
-        self.bytes.rotate_left(self.start);
+        move_to_front(&mut self.bytes, self.start);
         self.bytes.truncate(left);
         self.start = 0;
     }
 
-    /// Reads once. Room is made before, so that nothing is lost where memory is refused.
+    /// Reads once. Room is made before, so that nothing is lost where memory is refused. What was taken
+    /// is dropped here and not at each message, since many messages come with one read.
     fn read_once<I: Source>(&mut self, input: &mut I) -> Result<usize, Unread>
         ensures brings { (piece : List ℕ) × Gave (I.left input.old) (I.left input.new) piece × Brings self.old piece self.new result }
         ensures end { IfOk result (λ n. n ≡ 0 → IsTrue (I.ended input.new)) }
@@ -101,6 +118,7 @@ impl MessageBuffer {
         ensures same { I.origin input.new ≡ I.origin input.old }
         ensures fewer { IfOk result (λ n. I.budget input.new + n ≤ I.budget input.old) }
     {
+        self.forget_taken();
         match self.bytes.reserve(self.piece.len()) {
             Ok(()) => {}
             Err(_) => return Err(Unread::NoMemory),
@@ -126,7 +144,6 @@ impl MessageBuffer {
         ensures same { I.origin input.new ≡ I.origin input.old }
         ensures fewer { result ≡ Filled.There → I.budget input.new + length self.new ≤ I.budget input.old + length self.old }
     {
-        self.forget_taken();
         'reads: while self.bytes().len() < wanted {
             match self.read_once(input) {
                 Ok(0) => return Filled::End,
