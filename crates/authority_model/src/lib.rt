@@ -19,15 +19,11 @@ mod key;
 mod load;
 mod locale;
 mod message;
-#[cfg(test)]
-mod method_tests;
 mod names;
 mod offered;
 mod pending;
 mod policy;
 mod process_id;
-#[cfg(test)]
-mod tests;
 mod verdict;
 mod world;
 

@@ -5,8 +5,6 @@
 mod batches;
 mod desk;
 mod ends;
-#[cfg(test)]
-mod tests;
 mod writer;
 
 pub use desk::{Begun, Desk, submit_at_desk, write_as_it_comes};

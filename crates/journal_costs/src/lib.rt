@@ -9,8 +9,6 @@ mod cost;
 mod counted;
 mod entry;
 mod load;
-#[cfg(test)]
-mod tests;
 
 pub use cost::MAX_COST;
 pub use entry::cost_of_entry;

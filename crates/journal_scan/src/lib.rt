@@ -10,8 +10,6 @@ mod laws;
 mod lines;
 mod loading;
 mod scan;
-#[cfg(test)]
-mod tests;
 
 pub use counts::{Counts, PLACES, Tally, Totals};
 pub use laws::items_belong;

@@ -1,4 +1,4 @@
-//! Connections, the loader and slots over one authority, tested at objects in memory.
+//! A writer, connections, the loader and slots over one authority, tested at objects in memory.
 #![tactic(auto)]
 
 #[cfg(test)]
@@ -11,3 +11,5 @@ mod loaders;
 mod passes;
 #[cfg(test)]
 mod wire;
+#[cfg(test)]
+mod writers;

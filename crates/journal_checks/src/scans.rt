@@ -1,6 +1,6 @@
 // An orderly journal, and what one more entry or another list of lines makes of it.
-use super::*;
 use authority_model::{Call, Entry, EntryList, Event, History, Message, Output, OutputList};
+use journal_scan::{ConnectionLine, Counts, Tally, Totals, scan_journal};
 use pk_types::{List, NoMemory};
 use std::alloc::Global;
 use std::test::Fail;

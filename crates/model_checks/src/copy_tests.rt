@@ -1,5 +1,5 @@
 // Copies with ample memory, the text that a locale chooses, and the identity that a text names.
-use crate::{
+use authority_model::{
     Action, FileFault, Group, IdentityFault, Loaded, Localized, LocalizedList, Process, RuleEntry,
     Session, User, localized,
 };

@@ -6,8 +6,10 @@ ghost use Rattle.history_lock.specs.Entries.{NoneBy};
 ghost use Rattle.shared_authority.specs.Journals.{caller_of};
 ghost use Rattle.connection_writer.specs.Writing.{StandsAt};
 
-use crate::{Begun, Desk, Writer, WriterEnd, submit_at_desk, write_answers, write_as_it_comes};
 use authority_model::{Call, Event, Limits};
+use connection_writer::{
+    Begun, Desk, Writer, WriterEnd, submit_at_desk, write_answers, write_as_it_comes,
+};
 use dbus_values::{Next, next_message};
 use history_lock::{Opened, Pass, TableName, open_table};
 use pk_outside::{ByteSink, Sink};

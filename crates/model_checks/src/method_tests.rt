@@ -1,5 +1,5 @@
 // The rules of a type, each once with ample memory. What is wanted is said by the polkit manual.
-use crate::{
+use authority_model::{
     ALLOW_USER_INTERACTION, Action, Cookie, ErrorCause, Event, GRANT_SECONDS, GrantRow, Group, Key,
     KeyRef, Loaded, Process, RuleEntry, Session, User, World, allows_interaction, offers,
     push_grant_text,
