@@ -2,7 +2,7 @@
 ghost use Rattle.std.specs.Prelude.{◌<◌, IfOk};
 ghost use Rattle.authority_model.specs.Given.{IsStepped};
 
-use crate::calls::{action_id, decide, load, step, text};
+use crate::calls::{action_id, decide, load, step};
 use authority_core::{Authority, Limits};
 use authority_model::{
     Action, ActionList, Answer, Call, Decision, Entry, ErrorCause, Event, Loaded, Message, Process,
@@ -11,6 +11,7 @@ use authority_model::{
 use pk_types::{Category, Implicit, List, NoMemory, Subject, Text};
 use std::alloc::Global;
 use std::test::Fail;
+use test_values::text;
 
 const LIMITS: Limits = Limits {
     entries: 1_048_576,
@@ -112,19 +113,29 @@ fn process(pid: u32, start: u64, uid: u32) -> Process {
     }
 }
 
+/// Id and value of an action.
+const ACTIONS: [(&str, Implicit); 3] = [
+    ("a.yes", Implicit::Yes),
+    ("a.no", Implicit::No),
+    ("a.admin", Implicit::AuthAdmin),
+];
+
 fn some_actions(alloc: Global) -> Result<ActionList, Fail> {
     let mut actions = List::new(alloc);
-    actions.try_push(action(alloc, "a.yes", Implicit::Yes)?)?;
-    actions.try_push(action(alloc, "a.no", Implicit::No)?)?;
-    actions.try_push(action(alloc, "a.admin", Implicit::AuthAdmin)?)?;
+    for (id, value) in ACTIONS {
+        actions.try_push(action(alloc, id, value)?)?;
+    }
     Ok(actions)
 }
 
+/// Pid, start and uid of a process.
+const PROCESSES: [(u32, u64, u32); 3] = [(1, 1, 0), (51, 8, 1000), (60, 9, 1001)];
+
 fn some_processes(alloc: Global) -> Result<ProcessList, NoMemory> {
     let mut processes = List::new(alloc);
-    processes.try_push(process(1, 1, 0))?;
-    processes.try_push(process(51, 8, 1000))?;
-    processes.try_push(process(60, 9, 1001))?;
+    for (pid, start, uid) in PROCESSES {
+        processes.try_push(process(pid, start, uid))?;
+    }
     Ok(processes)
 }
 

@@ -55,17 +55,27 @@ pub fn decide(authority: &Authority, subject: &Subject, id: &Text) -> Option<Dec
     authority.decide(0, subject, id)
 }
 
-/// Carries a state on by an entry at a place, which has no load.
+/// Carries a state on by the entry at a place, which has salt 255 and no load.
 pub fn carry(
     state: &mut State,
     in_force: &Loaded,
     place: u64,
-    entry: &Entry,
+    caller: u32,
+    moment: u64,
+    event: Event,
+    outputs: OutputList,
 ) -> Result<(), NoMemory>
     requires entries { IsShort in_force.now.policy.entries }
-    requires moment { entry.now.moment ≤ 2 ^ 62 }
+    requires moment { moment ≤ 2 ^ 62 }
 {
-    state.after(in_force, place, entry, None)
+    let entry = Entry {
+        caller,
+        moment,
+        salt: 255,
+        event,
+        outputs,
+    };
+    state.after(in_force, place, &entry, None)
 }
 
 /// The outputs of an event of a caller at moment 1, with salt 0, over a load.
@@ -79,11 +89,6 @@ pub fn answers(
     requires entries { IsShort in_force.now.policy.entries }
 {
     outputs(alloc, state, in_force, 0, caller, 1, 0, event)
-}
-
-/// A text of these characters.
-pub fn text(alloc: Global, characters: &str) -> Result<Text, Fail> {
-    Ok(Text::try_from_bytes(alloc, characters.as_bytes())?)
 }
 
 /// The id of an action that a text spells.

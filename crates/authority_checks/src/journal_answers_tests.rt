@@ -1,12 +1,13 @@
 // Each public call once, with ample memory. The expected replies are those of the reference manual
 // of polkit and of this project's own interface.
-use crate::calls::{answers, text};
+use crate::calls::answers;
 use authority_model::{Answer, Call, Entry, ErrorCause, Event, Loaded, Message, OutputList};
 use journal_answers::load_outputs;
 use journal_state::State;
 use pk_types::{List, NoMemory, Subject, Text};
 use std::alloc::Global;
 use std::test::Fail;
+use test_values::text;
 
 /// The state after connection 3 is made by uid 7.
 fn connected(alloc: Global) -> Result<State, NoMemory> {

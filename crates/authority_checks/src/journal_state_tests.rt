@@ -3,57 +3,64 @@
 ghost use Rattle.std.specs.Prelude.{◌≤◌, ◌^◌, IfOk};
 ghost use Rattle.authority_model.specs.Small.{IsShort};
 
-use crate::calls::{action_id, carry, text};
+use crate::calls::{action_id, carry};
 use authority_model::{
-    Action, Call, Cookie, Entry, Event, Loaded, Message, Output, OutputList, Process, ProcessId,
+    Action, Call, Cookie, Event, Loaded, Message, Output, OutputList, Process, ProcessId,
 };
 use journal_state::{OutputPlace, State};
 use pk_types::{Identity, Implicit, List, Subject, Text};
 use std::alloc::Global;
 use std::test::Fail;
+use test_values::{one, text};
 
-/// A process of uid 1000, and an action for which that user has to authenticate.
-fn load(alloc: Global) -> Result<Loaded, Fail>
-    ensures entries { IfOk result (λ l. IsShort l.policy.entries) }
-{
-    let mut loaded = Loaded::empty(alloc);
-    loaded.policy.actions.try_push(Action::plain(
+/// An action for which a user has to authenticate.
+fn keep(alloc: Global) -> Result<Action, Fail> {
+    let id = action_id(&text(alloc, "a.keep")?)?;
+    Ok(Action::plain(
         alloc,
-        action_id(&text(alloc, "a.keep")?)?,
+        id,
         Implicit::AuthSelfKeep,
         Implicit::No,
         Implicit::No,
-    ))?;
-    loaded.world.processes.try_push(Process {
+    ))
+}
+
+/// A process of uid 1000, and that action.
+fn load(alloc: Global) -> Result<Loaded, Fail>
+    ensures entries { IfOk result (λ l. IsShort l.policy.entries) }
+{
+    let process = Process {
         pid: 50,
         start: 7,
         uid: 1000,
         session: None,
-    })?;
+    };
+    let mut loaded = Loaded::empty(alloc);
+    loaded.policy.actions = one(alloc, keep(alloc)?)?;
+    loaded.world.processes = one(alloc, process)?;
     Ok(loaded)
 }
 
 /// What the agent of connection 1 is asked.
-fn begin(alloc: Global) -> Result<OutputList, Fail> {
-    let mut identities = List::new(alloc);
-    identities.try_push(Identity::User(1000))?;
-    let mut outputs = List::new(alloc);
-    outputs.try_push(Output {
-        to: 1,
-        message: Message::Begin {
-            path: text(alloc, "/agent")?,
-            action: text(alloc, "a.keep")?,
-            text: Text::new(alloc),
-            icon: Text::new(alloc),
-            details: List::new(alloc),
-            cookie: Cookie {
-                serial: 1,
-                salt: 255,
-            },
-            identities,
+fn question(alloc: Global) -> Result<Message, Fail> {
+    Ok(Message::Begin {
+        path: text(alloc, "/agent")?,
+        action: text(alloc, "a.keep")?,
+        text: Text::new(alloc),
+        icon: Text::new(alloc),
+        details: List::new(alloc),
+        cookie: Cookie {
+            serial: 1,
+            salt: 255,
         },
-    })?;
-    Ok(outputs)
+        identities: one(alloc, Identity::User(1000))?,
+    })
+}
+
+/// The outputs of the check.
+fn begin(alloc: Global) -> Result<OutputList, Fail> {
+    let message = question(alloc)?;
+    Ok(one(alloc, Output { to: 1, message })?)
 }
 
 fn call(call: Call) -> Event {
@@ -112,6 +119,15 @@ fn event(alloc: Global, place: usize) -> Result<Event, Fail> {
     }
 }
 
+/// The outputs of the event at a place.
+fn outputs(alloc: Global, place: usize) -> Result<OutputList, Fail> {
+    if place == 3 {
+        begin(alloc)
+    } else {
+        Ok(List::new(alloc))
+    }
+}
+
 /// Carries a state on by the event at a place, at this moment.
 fn step(
     alloc: Global,
@@ -123,18 +139,10 @@ fn step(
     requires entries { IsShort loaded.now.policy.entries }
     requires moment { moment ≤ 2 ^ 62 }
 {
-    let entry = Entry {
-        caller: if place == 4 || place == 5 { 2 } else { 1 },
-        moment,
-        salt: 255,
-        event: event(alloc, place)?,
-        outputs: if place == 3 {
-            begin(alloc)?
-        } else {
-            List::new(alloc)
-        },
-    };
-    carry(state, loaded, place as u64, &entry)?;
+    let caller = if place == 4 || place == 5 { 2 } else { 1 };
+    let outputs = outputs(alloc, place)?;
+    let event = event(alloc, place)?;
+    carry(state, loaded, place as u64, caller, moment, event, outputs)?;
     Ok(())
 }
 
@@ -199,15 +207,19 @@ fn grants_at(alloc: Global, moment: u64) -> Result<usize, Fail>
 fn collect(state: &mut State, loaded: &Loaded, alloc: Global, place: u64) -> Result<(), Fail>
     requires entries { IsShort loaded.now.policy.entries }
 {
-    let entry = Entry {
-        caller: 9,
-        moment: 10,
-        salt: 0,
-        event: Event::Collect { of: 1 },
-        outputs: List::new(alloc),
-    };
-    carry(state, loaded, place, &entry)?;
+    let event = Event::Collect { of: 1 };
+    carry(state, loaded, place, 9, 10, event, List::new(alloc))?;
     Ok(())
+}
+
+/// Where an output to a connection stands.
+fn sent(state: &State, to: u32, number: u64) -> Option<OutputPlace> {
+    state.sent.place(to, number)
+}
+
+/// How many outputs to a connection a caller has collected.
+fn collected(state: &State, caller: u32, of: u32) -> u64 {
+    state.collections.count(caller, of)
 }
 
 #[test]
@@ -222,12 +234,12 @@ fn outputs_are_located_and_collected(rt: HostRuntime) -> Result<(), Fail> {
         entry: 3,
         output: 0,
     };
-    assert!(rt; state.sent.place(1, 0) == Some(begin));
-    assert!(rt; state.sent.place(1, 1).is_none() && state.sent.place(2, 0).is_none());
-    assert!(rt; state.collections.count(9, 1) == 0);
+    assert!(rt; sent(&state, 1, 0) == Some(begin));
+    assert!(rt; sent(&state, 1, 1).is_none() && sent(&state, 2, 0).is_none());
+    assert!(rt; collected(&state, 9, 1) == 0);
     collect(&mut state, &loaded, alloc, 4)?;
-    assert!(rt; state.collections.count(9, 1) == 1 && state.collections.count(8, 1) == 0);
-    assert!(rt; state.collections.count(9, 2) == 0);
+    assert!(rt; collected(&state, 9, 1) == 1 && collected(&state, 8, 1) == 0);
+    assert!(rt; collected(&state, 9, 2) == 0);
     Ok(())
 }
 

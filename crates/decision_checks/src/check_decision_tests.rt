@@ -7,15 +7,12 @@ use authority_model::{
     Reason, RuleSource, Session, World,
 };
 use check_decision::{DecisionRef, allowed, decision, no, owns, return_verdict, verdict};
-use pk_types::{ActionId, Category, Identity, Implicit, List, Pair, Text};
+use pk_types::{ActionId, Category, Identity, Implicit, List, NoMemory, Pair, Text};
 use std::alloc::Global;
 use std::test::Fail;
+use test_values::{one, text};
 
 const ACTIVE: RuleSource = RuleSource::Default(Category::Active);
-
-fn text(alloc: Global, bytes: &str) -> Result<Text, Fail> {
-    Ok(Text::try_from_bytes(alloc, bytes.as_bytes())?)
-}
 
 /// An action with one annotation.
 fn action(
@@ -36,41 +33,51 @@ fn action(
     Ok(action)
 }
 
+const OWNER: &str = "org.freedesktop.policykit.owner";
+
+const IMPLY: &str = "org.freedesktop.policykit.imply";
+
+/// Id, value for active sessions, and the one annotation with its value.
+const ACTIONS: [(&str, Implicit, &str, &str); 5] = [
+    ("a.keep", Implicit::AuthSelfKeep, OWNER, "unix-user:7"),
+    ("z.main", Implicit::Yes, IMPLY, "a.part a.other"),
+    ("b.main", Implicit::Yes, IMPLY, " a.other\ta.part "),
+    ("a.main", Implicit::AuthSelf, IMPLY, "a.part"),
+    ("a.part", Implicit::AuthAdmin, OWNER, ""),
+];
+
+/// The actions, of which there are five.
 fn actions(alloc: Global) -> Result<ActionList, Fail>
     ensures short { IfOk result (λ actions. IsShort actions) }
 {
-    let owner = "org.freedesktop.policykit.owner";
-    let imply = "org.freedesktop.policykit.imply";
     let mut actions = List::new(alloc);
-    actions.try_push(action(
-        alloc,
-        "a.keep",
-        Implicit::AuthSelfKeep,
-        owner,
-        "unix-user:7",
-    )?)?;
-    actions.try_push(action(alloc, "z.main", Implicit::Yes, imply, "a.part a.other")?)?;
-    actions.try_push(action(alloc, "b.main", Implicit::Yes, imply, " a.other\ta.part ")?)?;
-    actions.try_push(action(alloc, "a.main", Implicit::AuthSelf, imply, "a.part")?)?;
-    actions.try_push(action(alloc, "a.part", Implicit::AuthAdmin, owner, "")?)?;
-    Ok(actions)
+    for (id, value, key, words) in ACTIONS {
+        actions.try_push(action(alloc, id, value, key, words)?)?;
+    }
+    if actions.len() == 5 {
+        Ok(actions)
+    } else {
+        Err(NoMemory)?
+    }
 }
 
 /// A process of uid 1000 in an active local session.
 fn world(alloc: Global) -> Result<World, Fail> {
-    let mut world = Loaded::empty(alloc).world;
-    world.sessions.try_push(Session {
+    let session = Session {
         id: text(alloc, "s1")?,
         uid: 1000,
         local: true,
         active: true,
-    })?;
-    world.processes.try_push(Process {
+    };
+    let process = Process {
         pid: 50,
         start: 7,
         uid: 1000,
         session: Some(text(alloc, "s1")?),
-    })?;
+    };
+    let mut world = Loaded::empty(alloc).world;
+    world.sessions = one(alloc, session)?;
+    world.processes = one(alloc, process)?;
     Ok(world)
 }
 

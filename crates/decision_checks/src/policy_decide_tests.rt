@@ -3,21 +3,16 @@ ghost use Rattle.std.specs.Prelude.{IfOk};
 ghost use Rattle.authority_model.specs.Small.{IsShort};
 
 use authority_model::{
-    Action, Group, Loaded, Policy, RuleEntry, RuleList, RuleSource, User, World,
+    Action, Group, GroupList, Loaded, Policy, RuleEntry, RuleList, RuleSource, User, UserList, World,
 };
-use pk_types::{ActionId, Category, Implicit, List, Text, TextList};
+use pk_types::{ActionId, Category, Implicit, List, NoMemory, Text, TextList};
 use policy_decide::implicit;
 use std::alloc::Global;
 use std::test::Fail;
-
-fn text(alloc: Global, bytes: &str) -> Result<Text, Fail> {
-    Ok(Text::try_from_bytes(alloc, bytes.as_bytes())?)
-}
+use test_values::{one, text};
 
 fn texts(alloc: Global, bytes: &str) -> Result<TextList, Fail> {
-    let mut texts = List::new(alloc);
-    texts.try_push(text(alloc, bytes)?)?;
-    Ok(texts)
+    Ok(one(alloc, text(alloc, bytes)?)?)
 }
 
 /// An action of an active session's administrators.
@@ -38,27 +33,34 @@ fn rule(alloc: Global, identity: &str, action: &str, value: Implicit) -> Result<
     })
 }
 
+/// Identity, action and value of a rule.
+const RULES: [(&str, &str, Implicit); 4] = [
+    ("unix-user:ann", "clock.*", Implicit::AuthSelf),
+    ("unix-group:wheel", "*", Implicit::No),
+    ("unix-group:w*", "clock.set", Implicit::Yes),
+    ("unix-group:staff", "clock.set", Implicit::AuthSelfKeep),
+];
+
+/// The rules, of which there are four.
 fn rules(alloc: Global) -> Result<RuleList, Fail>
     ensures short { IfOk result (λ rules. IsShort rules) }
 {
     let mut rules = List::new(alloc);
-    rules.try_push(rule(alloc, "unix-user:ann", "clock.*", Implicit::AuthSelf)?)?;
-    rules.try_push(rule(alloc, "unix-group:wheel", "*", Implicit::No)?)?;
-    rules.try_push(rule(alloc, "unix-group:w*", "clock.set", Implicit::Yes)?)?;
-    rules.try_push(rule(
-        alloc,
-        "unix-group:staff",
-        "clock.set",
-        Implicit::AuthSelfKeep,
-    )?)?;
-    Ok(rules)
+    for (identity, action, value) in RULES {
+        rules.try_push(rule(alloc, identity, action, value)?)?;
+    }
+    if rules.len() == 4 {
+        Ok(rules)
+    } else {
+        Err(NoMemory)?
+    }
 }
 
 fn policy(alloc: Global) -> Result<Policy, Fail>
     ensures entries { IfOk result (λ policy. IsShort policy.entries) }
 {
     let mut policy = Loaded::empty(alloc).policy;
-    policy.actions.try_push(set_clock(alloc)?)?;
+    policy.actions = one(alloc, set_clock(alloc)?)?;
     policy.entries = rules(alloc)?;
     Ok(policy)
 }
@@ -80,23 +82,33 @@ fn group(alloc: Global, gid: u32, label: &str) -> Result<Group, Fail> {
     })
 }
 
+fn groups(alloc: Global) -> Result<GroupList, Fail> {
+    let mut groups = List::new(alloc);
+    for (gid, label) in [(10, "unix-group:wheel"), (50, "unix-group:staff")] {
+        groups.try_push(group(alloc, gid, label)?)?;
+    }
+    Ok(groups)
+}
+
+/// Uid, label and gids of a user.
+const USERS: [(u32, &str, &[u32]); 3] = [
+    (1000, "unix-user:ann", &[50, 10]),
+    (1001, "unix-user:bob", &[50, 10]),
+    (1002, "unix-user:eve", &[10, 50, 99]),
+];
+
+fn users(alloc: Global) -> Result<UserList, Fail> {
+    let mut users = List::new(alloc);
+    for (uid, label, gids) in USERS {
+        users.try_push(user(alloc, uid, label, gids)?)?;
+    }
+    Ok(users)
+}
+
 fn world(alloc: Global) -> Result<World, Fail> {
     let mut world = Loaded::empty(alloc).world;
-    world
-        .groups
-        .try_push(group(alloc, 10, "unix-group:wheel")?)?;
-    world
-        .groups
-        .try_push(group(alloc, 50, "unix-group:staff")?)?;
-    world
-        .users
-        .try_push(user(alloc, 1000, "unix-user:ann", &[50, 10])?)?;
-    world
-        .users
-        .try_push(user(alloc, 1001, "unix-user:bob", &[50, 10])?)?;
-    world
-        .users
-        .try_push(user(alloc, 1002, "unix-user:eve", &[10, 50, 99])?)?;
+    world.groups = groups(alloc)?;
+    world.users = users(alloc)?;
     Ok(world)
 }
 

@@ -1,13 +1,10 @@
 // Each public call once, with ample memory, in a world of two sessions and three processes.
-use authority_model::{Facts, Key, Loaded, Process, Session, World};
-use pk_types::{Category, Subject, Text};
+use authority_model::{Facts, Key, Loaded, Process, ProcessList, Session, SessionList, World};
+use pk_types::{Category, List, Subject};
 use std::alloc::Global;
 use std::test::Fail;
 use subject_table::{facts, facts_of_key};
-
-fn text(alloc: Global, bytes: &str) -> Result<Text, Fail> {
-    Ok(Text::try_from_bytes(alloc, bytes.as_bytes())?)
-}
+use test_values::text;
 
 fn seat(alloc: Global, id: &str, uid: u32, local: bool) -> Result<Session, Fail> {
     Ok(Session {
@@ -27,13 +24,33 @@ fn run(alloc: Global, pid: u32, start: u64, uid: u32, id: &str) -> Result<Proces
     })
 }
 
+fn sessions(alloc: Global) -> Result<SessionList, Fail> {
+    let mut sessions = List::new(alloc);
+    for (id, uid, local) in [("s1", 1000, true), ("s2", 1001, false)] {
+        sessions.try_push(seat(alloc, id, uid, local)?)?;
+    }
+    Ok(sessions)
+}
+
+/// Pid, start, uid and session of a process.
+const PROCESSES: [(u32, u64, u32, &str); 3] = [
+    (50, 7, 1000, "s1"),
+    (50, 9, 1001, "s2"),
+    (60, 1, 1000, "s9"),
+];
+
+fn processes(alloc: Global) -> Result<ProcessList, Fail> {
+    let mut processes = List::new(alloc);
+    for (pid, start, uid, id) in PROCESSES {
+        processes.try_push(run(alloc, pid, start, uid, id)?)?;
+    }
+    Ok(processes)
+}
+
 fn world(alloc: Global) -> Result<World, Fail> {
     let mut world = Loaded::empty(alloc).world;
-    world.sessions.try_push(seat(alloc, "s1", 1000, true)?)?;
-    world.sessions.try_push(seat(alloc, "s2", 1001, false)?)?;
-    world.processes.try_push(run(alloc, 50, 7, 1000, "s1")?)?;
-    world.processes.try_push(run(alloc, 50, 9, 1001, "s2")?)?;
-    world.processes.try_push(run(alloc, 60, 1, 1000, "s9")?)?;
+    world.sessions = sessions(alloc)?;
+    world.processes = processes(alloc)?;
     Ok(world)
 }
 

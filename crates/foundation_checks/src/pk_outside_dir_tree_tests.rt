@@ -5,10 +5,7 @@ use std::alloc::Global;
 use std::fs;
 use std::os::unix::fs::symlink;
 use std::test::Fail;
-
-fn text(alloc: Global, path: &str) -> Result<Text, Fail> {
-    Ok(Text::try_from_bytes(alloc, path.as_bytes())?)
-}
+use test_values::text;
 
 /// Whether a tree lists the directory with one name, which is `a.policy`.
 fn lists_one<T: Tree>(tree: &mut T, path: &Text) -> bool {

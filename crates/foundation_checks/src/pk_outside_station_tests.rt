@@ -6,11 +6,7 @@ use pk_outside::{
 use pk_types::{List, Text};
 use std::alloc::{AllocError, Global};
 use std::test::Fail;
-
-/// The text of these bytes.
-fn text(alloc: Global, bytes: &[u8]) -> Result<Text, Fail> {
-    Ok(Text::try_from_bytes(alloc, bytes)?)
-}
+use test_values::{one, text};
 
 /// A link that gives these two bytes, one in a read, and takes three. Its read with this number
 /// fails.
@@ -20,32 +16,43 @@ fn link(alloc: Global, bytes: [u8; 2], failing: u64) -> Result<ByteLink, Fail> {
     Ok(ByteLink::new(input, output))
 }
 
-/// A door with these links, whose call of `accept` with this number fails.
-fn door(alloc: Global, links: &[[u8; 2]], failing: u64) -> Result<DoorPlan, Fail> {
-    let mut plan = DoorPlan::empty(alloc);
-    for bytes in links {
-        let link = link(alloc, *bytes, 0)?;
-        plan.links.try_push(link).map_err(|_| AllocError)?;
+fn links(alloc: Global, all: &[[u8; 2]]) -> Result<List<ByteLink>, Fail> {
+    let mut links = List::new(alloc);
+    for bytes in all {
+        links.try_push(link(alloc, *bytes, 0)?)?;
     }
+    Ok(links)
+}
+
+/// A door with these links, whose call of `accept` with this number fails.
+fn door(alloc: Global, all: &[[u8; 2]], failing: u64) -> Result<DoorPlan, Fail> {
+    let mut plan = DoorPlan::empty(alloc);
+    plan.links = links(alloc, all)?;
     plan.failing = vec![in alloc; failing]?;
     Ok(plan)
+}
+
+/// The links of a door, and the number of its call of `accept` that fails.
+const DOORS: [(&[[u8; 2]], u64); 2] = [(&[*b"ab", *b"cd"], 2), (&[*b"ef"], 0)];
+
+fn doors(alloc: Global) -> Result<List<DoorPlan>, Fail> {
+    let mut doors = List::new(alloc);
+    for (links, failing) in DOORS {
+        doors.try_push(door(alloc, links, failing)?)?;
+    }
+    Ok(doors)
 }
 
 /// Two doors, the first with the links `ab` and `cd` and a second `accept` that fails, the other with
 /// the link `ef`; the link `gh` to dial, whose first read fails; a clock and a salt. The third call of
 /// `door` and the first call of `dial` fail.
 fn plan(alloc: Global) -> Result<StationPlan, Fail> {
-    let mut plan = StationPlan::empty(alloc);
-    let first = door(alloc, &[*b"ab", *b"cd"], 2)?;
-    plan.doors.try_push(first).map_err(|_| AllocError)?;
-    let second = door(alloc, &[*b"ef"], 0)?;
-    plan.doors.try_push(second).map_err(|_| AllocError)?;
-    let dialled = link(alloc, *b"gh", 1)?;
-    plan.links.try_push(dialled).map_err(|_| AllocError)?;
     let readings = Readings::new(vec![in alloc; 5, 9_000_000_000_000_000_000]?);
-    plan.clocks.try_push(readings).map_err(|_| AllocError)?;
-    let words = List::try_from_slice(alloc, &[7]).map_err(|_| AllocError)?;
-    plan.salts.try_push(words).map_err(|_| AllocError)?;
+    let mut plan = StationPlan::empty(alloc);
+    plan.doors = doors(alloc)?;
+    plan.links = one(alloc, link(alloc, *b"gh", 1)?)?;
+    plan.clocks = one(alloc, readings)?;
+    plan.salts = one(alloc, one(alloc, 7)?)?;
     plan.failing_doors = vec![in alloc; 3]?;
     plan.failing_dials = vec![in alloc; 1]?;
     Ok(plan)
@@ -90,7 +97,7 @@ fn is_back(
 fn doors_in_memory_give_their_links_and_keep_them(rt: HostRuntime) -> Result<(), Fail> {
     let alloc = rt.alloc();
     let mut station = ListStation::new(alloc, plan(alloc)?);
-    let path = text(alloc, b"/u")?;
+    let path = text(alloc, "/u")?;
     let mut first = made(&mut station, 7, &path, 0)?;
     let second = made(&mut station, 8, &path, 1)?;
     assert!(rt; matches!(station.door(9, &path, 2), Err(StationRefused::Failed)));
@@ -123,7 +130,7 @@ fn doors_in_memory_give_their_links_and_keep_them(rt: HostRuntime) -> Result<(),
 fn doors_in_memory_are_shut_in_order(rt: HostRuntime) -> Result<(), Fail> {
     let alloc = rt.alloc();
     let mut station = ListStation::new(alloc, plan(alloc)?);
-    let path = text(alloc, b"/u")?;
+    let path = text(alloc, "/u")?;
     let first = made(&mut station, 7, &path, 0)?;
     let mut second = made(&mut station, 8, &path, 1)?;
     let ef = accepted(&mut second)?;
@@ -150,7 +157,7 @@ fn doors_in_memory_are_shut_in_order(rt: HostRuntime) -> Result<(), Fail> {
 fn station_in_memory_dials_its_links(rt: HostRuntime) -> Result<(), Fail> {
     let alloc = rt.alloc();
     let mut station = ListStation::new(alloc, plan(alloc)?);
-    let path = text(alloc, b"/v")?;
+    let path = text(alloc, "/v")?;
     assert!(rt; matches!(station.dial(&path), Err(StationRefused::Failed)));
     let Ok(link) = station.dial(&path) else {
         return Err(Fail::from("no link"));

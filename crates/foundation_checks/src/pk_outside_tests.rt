@@ -8,6 +8,7 @@ use pk_types::{List, Text};
 use std::alloc::{AllocError, Global};
 use std::io;
 use std::test::Fail;
+use test_values::text;
 
 #[test]
 fn source_gives_its_bytes_in_pieces(rt: HostRuntime) -> Result<(), Fail> {
@@ -50,16 +51,11 @@ fn path(alloc: Global) -> Result<Text, Fail> {
     Ok(Text::try_from_bytes(alloc, b"/u")?)
 }
 
-/// The text of these bytes.
-fn text(alloc: Global, bytes: &[u8]) -> Result<Text, Fail> {
-    Ok(Text::try_from_bytes(alloc, bytes)?)
-}
-
 /// The file `/d/a` with the bytes `abc`.
 fn files(alloc: Global) -> Result<List<TreeFile>, Fail> {
     let mut files = List::new(alloc);
     let file = TreeFile {
-        path: text(alloc, b"/d/a")?,
+        path: text(alloc, "/d/a")?,
         bytes: List::try_from_slice(alloc, b"abc").map_err(|_| AllocError)?,
     };
     files.try_push(file).map_err(|_| AllocError)?;
@@ -69,10 +65,10 @@ fn files(alloc: Global) -> Result<List<TreeFile>, Fail> {
 /// The directory `/d` with the name `a` and two names that are no text.
 fn directories(alloc: Global) -> Result<List<TreeDirectory>, Fail> {
     let mut names = List::new(alloc);
-    names.try_push(text(alloc, b"a")?).map_err(|_| AllocError)?;
+    names.try_push(text(alloc, "a")?).map_err(|_| AllocError)?;
     let mut directories = List::new(alloc);
     let directory = TreeDirectory {
-        path: text(alloc, b"/d")?,
+        path: text(alloc, "/d")?,
         names,
         unnamed: 2,
     };
@@ -109,7 +105,7 @@ fn has_no_directory<T: Tree>(tree: &mut T, path: &Text) -> bool {
 #[test]
 fn tree_in_memory_gives_its_files(rt: HostRuntime) -> Result<(), Fail> {
     let alloc = rt.alloc();
-    let (directory, file) = (text(alloc, b"/d")?, text(alloc, b"/d/a")?);
+    let (directory, file) = (text(alloc, "/d")?, text(alloc, "/d/a")?);
     let mut tree = ListTree::new(alloc, files(alloc)?, directories(alloc)?, Vec::new(alloc));
     assert!(rt; lists_two_unnamed(&mut tree, &directory));
     assert!(rt; reads_abc(&mut tree, &file));
@@ -137,7 +133,7 @@ fn tree_in_memory_fails_at_the_listed_calls(rt: HostRuntime) -> Result<(), Fail>
 #[test]
 fn sure_tree_gives_its_files(rt: HostRuntime) -> Result<(), Fail> {
     let alloc = rt.alloc();
-    let (directory, file) = (text(alloc, b"/d")?, text(alloc, b"/d/a")?);
+    let (directory, file) = (text(alloc, "/d")?, text(alloc, "/d/a")?);
     let mut tree = SureTree::new(alloc, files(alloc)?, directories(alloc)?);
     assert!(rt; lists_two_unnamed(&mut tree, &directory));
     assert!(rt; reads_abc(&mut tree, &file));

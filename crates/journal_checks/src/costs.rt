@@ -13,6 +13,7 @@ use pk_types::{
 };
 use std::alloc::Global;
 use std::test::Fail;
+use test_values::one;
 
 /// A text of so many bytes.
 fn text(alloc: Global, len: usize) -> Result<Text, Fail> {
@@ -21,16 +22,10 @@ fn text(alloc: Global, len: usize) -> Result<Text, Fail> {
     Ok(Text::try_from_bytes(alloc, bytes)?)
 }
 
-fn one<T: Drop>(alloc: Global, item: T) -> Result<List<T>, Fail> {
-    let mut list = List::new(alloc);
-    list.try_push(item)?;
-    Ok(list)
-}
-
 fn pairs(alloc: Global, key: usize, value: usize) -> Result<PairList, Fail> {
     let key = text(alloc, key)?;
     let value = text(alloc, value)?;
-    one(alloc, Pair { key, value })
+    Ok(one(alloc, Pair { key, value })?)
 }
 
 fn session(alloc: Global, len: usize) -> Result<Subject, Fail> {
@@ -313,7 +308,7 @@ fn an_entry_costs_its_event_and_each_output(rt: HostRuntime) -> Result<(), Fail>
 fn localized(alloc: Global, lang: usize, words: usize) -> Result<LocalizedList, Fail> {
     let lang = text(alloc, lang)?;
     let text = text(alloc, words)?;
-    one(alloc, Localized { lang, text })
+    Ok(one(alloc, Localized { lang, text })?)
 }
 
 /// An action whose id has so many bytes, without other texts.
@@ -449,9 +444,10 @@ fn sessions_and_processes_cost_the_ids_of_sessions(rt: HostRuntime) -> Result<()
     loaded.world.sessions = one(alloc, seat(alloc)?)?;
     assert_eq!(rt; cost_of_load(&loaded), 64 + 16);
     let id = text(alloc, 32)?;
+    let mut processes = one(alloc, process(Some(id)))?;
+    processes.try_push(process(None))?;
     let mut loaded = Loaded::empty(alloc);
-    loaded.world.processes = one(alloc, process(Some(id)))?;
-    loaded.world.processes.try_push(process(None))?;
+    loaded.world.processes = processes;
     assert_eq!(rt; cost_of_load(&loaded), 64 + 32 + 64);
     Ok(())
 }

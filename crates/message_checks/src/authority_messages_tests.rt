@@ -5,66 +5,59 @@ ghost use Rattle.authority_messages.specs.Messages.{is_message, AnswersCall};
 
 use authority_messages::message_of;
 use authority_model::{
-    Action, Answer, Cookie, ErrorCause, GrantRow, History, Key, Loaded, Localized, Message, Output,
-    Reason, Verdict,
+    Action, Answer, Cookie, ErrorCause, GrantRow, History, Key, Loaded, Localized, LocalizedList,
+    Message, Output, Reason, Verdict,
 };
 use pk_types::{ActionId, Category, Identity, Implicit, List, Pair, PairList, Text};
 use std::alloc::Global;
 use std::test::*;
-
-fn text(alloc: Global, bytes: &[u8]) -> Result<Text, Fail> {
-    Ok(Text::try_from_bytes(alloc, bytes)?)
-}
+use test_values::{one, text, text_of_bytes};
 
 fn pair(alloc: Global, key: &[u8], value: &[u8]) -> Result<Pair, Fail> {
-    let key = text(alloc, key)?;
-    let value = text(alloc, value)?;
+    let key = text_of_bytes(alloc, key)?;
+    let value = text_of_bytes(alloc, value)?;
     Ok(Pair { key, value })
 }
 
 fn one_pair(alloc: Global) -> Result<PairList, Fail> {
-    let mut pairs = List::new(alloc);
-    pairs.try_push(pair(alloc, b"k", b"v")?)?;
-    Ok(pairs)
+    Ok(one(alloc, pair(alloc, b"k", b"v")?)?)
 }
 
 fn localized(alloc: Global, lang: &[u8], told: &[u8]) -> Result<Localized, Fail> {
-    let lang = text(alloc, lang)?;
-    let text = text(alloc, told)?;
+    let lang = text_of_bytes(alloc, lang)?;
+    let text = text_of_bytes(alloc, told)?;
     Ok(Localized { lang, text })
+}
+
+fn descriptions(alloc: Global) -> Result<LocalizedList, Fail> {
+    let mut descriptions = one(alloc, localized(alloc, b"", b"Do")?)?;
+    descriptions.try_push(localized(alloc, b"de", b"Tun")?)?;
+    Ok(descriptions)
 }
 
 /// An action with texts in two languages.
 fn action(alloc: Global) -> Result<Action, Fail> {
-    let id = ActionId::read(&text(alloc, b"a.yes")?)?;
-    let mut action = Action::plain(
-        alloc,
-        id,
-        Implicit::Yes,
-        Implicit::AuthSelf,
-        Implicit::AuthAdminKeep,
-    );
-    action.descriptions.try_push(localized(alloc, b"", b"Do")?)?;
-    action
-        .descriptions
-        .try_push(localized(alloc, b"de", b"Tun")?)?;
-    action.messages.try_push(localized(alloc, b"", b"Do?")?)?;
-    action.vendor = text(alloc, b"Vendor")?;
-    action.vendor_url = text(alloc, b"http://v")?;
-    action.icon = text(alloc, b"icon")?;
-    action.annotations = one_pair(alloc)?;
-    Ok(action)
+    Ok(Action {
+        id: ActionId::read(&text(alloc, "a.yes")?)?,
+        descriptions: descriptions(alloc)?,
+        messages: one(alloc, localized(alloc, b"", b"Do?")?)?,
+        vendor: text(alloc, "Vendor")?,
+        vendor_url: text(alloc, "http://v")?,
+        icon: text(alloc, "icon")?,
+        any: Implicit::Yes,
+        inactive: Implicit::AuthSelf,
+        active: Implicit::AuthAdminKeep,
+        annotations: one_pair(alloc)?,
+    })
 }
 
 /// A history with one load, which has one action.
 fn one_load(alloc: Global) -> Result<History, Fail> {
     let mut loaded = Loaded::empty(alloc);
-    loaded.policy.actions.try_push(action(alloc)?)?;
-    let mut loads = List::new(alloc);
-    loads.try_push(loaded)?;
+    loaded.policy.actions = one(alloc, action(alloc)?)?;
     Ok(History {
         entries: List::new(alloc),
-        loads,
+        loads: one(alloc, loaded)?,
     })
 }
 
@@ -148,9 +141,10 @@ fn a_new_temporary_authorization_is_told(rt: HostRuntime) -> Result<(), Fail> {
 #[test]
 fn the_pairs_of_a_rule_come_last(rt: HostRuntime) -> Result<(), Fail> {
     let alloc = rt.alloc();
+    let mut pairs = one_pair(alloc)?;
+    pairs.try_push(pair(alloc, b"k", b"")?)?;
     let mut verdict = told(alloc, true, Reason::Entry(2));
-    verdict.pairs = one_pair(alloc)?;
-    verdict.pairs.try_push(pair(alloc, b"k", b"")?)?;
+    verdict.pairs = pairs;
     let want =
         b"l\x02\x01\x01U\0\0\0\x02\0\0\0\x17\0\0\0\x05\x01u\0\x09\0\0\0\x08\x01g\0\x09(bba{ss})\0\0\x01\0\0\0\0\0\0\0E\0\0\0\0\0\0\0\x11\0\0\0polkit.decided-by\0\0\0\x07\0\0\0entry:2\0\0\0\0\0\x01\0\0\0k\0\0\0\x01\0\0\0v\0\0\0\x01\0\0\0k\0\0\0\0\0\0\0\0";
     assert!(rt; is_answered(alloc, Answer::Verdict(verdict), want)?);
@@ -163,7 +157,7 @@ fn done_and_a_name_are_answered(rt: HostRuntime) -> Result<(), Fail> {
     let alloc = rt.alloc();
     let want = b"l\x02\x01\x01\0\0\0\0\x02\0\0\0\x08\0\0\0\x05\x01u\0\x09\0\0\0";
     assert!(rt; is_answered(alloc, Answer::Done, want)?);
-    let name = Answer::Name(text(alloc, b":1.4")?);
+    let name = Answer::Name(text(alloc, ":1.4")?);
     let want =
         b"l\x02\x01\x01\x09\0\0\0\x02\0\0\0\x0f\0\0\0\x05\x01u\0\x09\0\0\0\x08\x01g\0\x01s\0\0\x04\0\0\0:1.4\0";
     assert!(rt; is_answered(alloc, name, want)?);
@@ -174,7 +168,7 @@ fn done_and_a_name_are_answered(rt: HostRuntime) -> Result<(), Fail> {
 #[test]
 fn actions_are_listed(rt: HostRuntime) -> Result<(), Fail> {
     let alloc = rt.alloc();
-    let locale = text(alloc, b"de_AT.UTF-8")?;
+    let locale = text(alloc, "de_AT.UTF-8")?;
     let want =
         b"l\x02\x01\x01n\0\0\0\x02\0\0\0\x1f\0\0\0\x05\x01u\0\x09\0\0\0\x08\x01g\0\x11a(ssssssuuua{ss})\0\0f\0\0\0\0\0\0\0\x05\0\0\0a.yes\0\0\0\x03\0\0\0Tun\0\x03\0\0\0Do?\0\x06\0\0\0Vendor\0\0\x08\0\0\0http://v\0\0\0\0\x04\0\0\0icon\0\0\0\0\x05\0\0\0\x01\0\0\0\x04\0\0\0\x0e\0\0\0\0\0\0\0\x01\0\0\0k\0\0\0\x01\0\0\0v\0";
     assert!(rt; is_answered(alloc, Answer::Actions { load: 1, locale }, want)?);
@@ -188,7 +182,7 @@ fn actions_are_listed(rt: HostRuntime) -> Result<(), Fail> {
 fn grant(alloc: Global, id: u64, action: &[u8], key: Key, obtained: u64) -> Result<GrantRow, Fail>
     requires { obtained < 1000 }
 {
-    let action = text(alloc, action)?;
+    let action = text_of_bytes(alloc, action)?;
     Ok(GrantRow {
         id,
         action,
@@ -209,7 +203,7 @@ fn temporary_authorizations_are_listed(rt: HostRuntime) -> Result<(), Fail> {
         uid: 1000,
     };
     rows.try_push(grant(alloc, 0, b"a.self", key, 50)?)?;
-    let id = text(alloc, b"c1")?;
+    let id = text(alloc, "c1")?;
     let key = Key::Session { id, uid: 1000 };
     rows.try_push(grant(alloc, 12, b"a.b", key, 60)?)?;
     let want =
@@ -327,10 +321,10 @@ fn an_agent_is_asked(rt: HostRuntime) -> Result<(), Fail> {
     identities.try_push(Identity::User(1000))?;
     identities.try_push(Identity::Group(5))?;
     let begin = Message::Begin {
-        path: text(alloc, b"/agent")?,
-        action: text(alloc, b"a.self")?,
-        text: text(alloc, b"Do it?")?,
-        icon: text(alloc, b"key")?,
+        path: text(alloc, "/agent")?,
+        action: text(alloc, "a.self")?,
+        text: text(alloc, "Do it?")?,
+        icon: text(alloc, "key")?,
         details: one_pair(alloc)?,
         cookie: COOKIE,
         identities,
@@ -346,8 +340,8 @@ fn an_agent_is_asked(rt: HostRuntime) -> Result<(), Fail> {
 fn a_path_that_is_not_one_is_the_root(rt: HostRuntime) -> Result<(), Fail> {
     let alloc = rt.alloc();
     let begin = Message::Begin {
-        path: text(alloc, b"agent")?,
-        action: text(alloc, b"a.self")?,
+        path: text(alloc, "agent")?,
+        action: text(alloc, "a.self")?,
         text: Text::new(alloc),
         icon: Text::new(alloc),
         details: List::new(alloc),
@@ -365,7 +359,7 @@ fn a_path_that_is_not_one_is_the_root(rt: HostRuntime) -> Result<(), Fail> {
 fn an_end_and_a_change_are_sent(rt: HostRuntime) -> Result<(), Fail> {
     let alloc = rt.alloc();
     let end = Message::CancelBegin {
-        path: text(alloc, b"/agent")?,
+        path: text(alloc, "/agent")?,
         cookie: COOKIE,
     };
     let want =
@@ -405,7 +399,7 @@ fn what_is_too_long_is_an_error(rt: HostRuntime) -> Result<(), Fail> {
 fn a_reason_that_is_too_long_is_an_error(rt: HostRuntime) -> Result<(), Fail> {
     let alloc = rt.alloc();
     let bytes = vec![in alloc; b'x'; 65530]?;
-    let id = text(alloc, &bytes)?;
+    let id = text_of_bytes(alloc, &bytes)?;
     let verdict = told(alloc, true, Reason::Imply(id));
     let want =
         b"l\x03\x01\x01\x1b\0\0\0\x02\0\0\0G\0\0\0\x04\x01s\0)\0\0\0org.freedesktop.DBus.Error.LimitsExceeded\0\0\0\0\0\0\0\x05\x01u\0\x09\0\0\0\x08\x01g\0\x01s\0\0\x16\0\0\0The answer is too long\0";
@@ -418,8 +412,8 @@ fn a_reason_that_is_too_long_is_an_error(rt: HostRuntime) -> Result<(), Fail> {
 fn a_question_that_is_too_long_is_cut(rt: HostRuntime) -> Result<(), Fail> {
     let alloc = rt.alloc();
     let begin = Message::Begin {
-        path: text(alloc, b"agent")?,
-        action: text(alloc, b"a.self")?,
+        path: text(alloc, "agent")?,
+        action: text(alloc, "a.self")?,
         text: Text::new(alloc),
         icon: Text::new(alloc),
         details: long_pairs(alloc)?,

@@ -10,10 +10,7 @@ use dbus_values::{Next, next_message};
 use pk_types::{Identity, List, NoMemory, Pair, PairList, Subject, Text};
 use std::alloc::{AllocError, Global};
 use std::test::*;
-
-fn text(alloc: Global, bytes: &[u8]) -> Result<Text, Fail> {
-    Ok(Text::try_from_bytes(alloc, bytes)?)
-}
+use test_values::{text, text_of_bytes};
 
 const PROCESS: Subject = Subject::Process { pid: 51, start: 8 };
 
@@ -64,8 +61,8 @@ fn is_written(alloc: Global, call: Call, word: &str, want: &[u8]) -> Result<bool
 }
 
 fn one_pair(alloc: Global) -> Result<PairList, Fail> {
-    let key = text(alloc, b"k")?;
-    let value = text(alloc, b"v")?;
+    let key = text(alloc, "k")?;
+    let value = text(alloc, "v")?;
     let mut pairs = List::new(alloc);
     pairs.try_push(Pair { key, value })?;
     Ok(pairs)
@@ -77,7 +74,7 @@ fn checks_are_written(rt: HostRuntime) -> Result<(), Fail> {
     let alloc = rt.alloc();
     let call = Call::Check {
         subject: PROCESS,
-        action: text(alloc, b"a.yes")?,
+        action: text(alloc, "a.yes")?,
         details: List::new(alloc),
         flags: 0,
         cancel: Text::new(alloc),
@@ -87,12 +84,12 @@ fn checks_are_written(rt: HostRuntime) -> Result<(), Fail> {
     assert!(rt; is_written(alloc, call, "check", want)?);
     let call = Call::Check {
         subject: Subject::BusName {
-            name: text(alloc, b":1.4")?,
+            name: text(alloc, ":1.4")?,
         },
-        action: text(alloc, b"a.b")?,
+        action: text(alloc, "a.b")?,
         details: one_pair(alloc)?,
         flags: 1,
-        cancel: text(alloc, b"x")?,
+        cancel: text(alloc, "x")?,
     };
     let want =
         b"l\x01\0\x01Z\0\0\0\x03\0\0\0\x96\0\0\0\x01\x01o\0%\0\0\0/org/freedesktop/PolicyKit1/Authority\0\0\0\x02\x01s\0$\0\0\0org.freedesktop.PolicyKit1.Authority\0\0\0\0\x03\x01s\0\x12\0\0\0CheckAuthorization\0\0\0\0\0\0\x08\x01g\0\x10(sa{sv})sa{ss}us\0\0\0\x0f\0\0\0system-bus-name\0\x15\0\0\0\x04\0\0\0name\0\x01s\0\x04\0\0\0:1.4\0\0\0\0\x03\0\0\0a.b\0\x0e\0\0\0\0\0\0\0\x01\0\0\0k\0\0\0\x01\0\0\0v\0\0\0\x01\0\0\0\x01\0\0\0x\0";
@@ -106,30 +103,30 @@ fn calls_of_agents_are_written(rt: HostRuntime) -> Result<(), Fail> {
     let alloc = rt.alloc();
     let call = Call::Register {
         subject: Subject::Session {
-            id: text(alloc, b"s1")?,
+            id: text(alloc, "s1")?,
         },
-        locale: text(alloc, b"C")?,
-        path: text(alloc, b"/agent")?,
+        locale: text(alloc, "C")?,
+        path: text(alloc, "/agent")?,
     };
     let want =
         b"l\x01\0\x01G\0\0\0\x03\0\0\0\x98\0\0\0\x01\x01o\0%\0\0\0/org/freedesktop/PolicyKit1/Authority\0\0\0\x02\x01s\0$\0\0\0org.freedesktop.PolicyKit1.Authority\0\0\0\0\x03\x01s\0\x1b\0\0\0RegisterAuthenticationAgent\0\0\0\0\0\x08\x01g\0\x0a(sa{sv})ss\0\x0c\0\0\0unix-session\0\0\0\0\x1b\0\0\0\x0a\0\0\0session-id\0\x01s\0\0\0\x02\0\0\0s1\0\0\x01\0\0\0C\0\0\0\x06\0\0\0/agent\0";
     assert!(rt; is_written(alloc, call, "register", want)?);
     let call = Call::Unregister {
         subject: PROCESS,
-        path: text(alloc, b"/agent")?,
+        path: text(alloc, "/agent")?,
     };
     let want =
         b"l\x01\0\x01S\0\0\0\x03\0\0\0\x97\0\0\0\x01\x01o\0%\0\0\0/org/freedesktop/PolicyKit1/Authority\0\0\0\x02\x01s\0$\0\0\0org.freedesktop.PolicyKit1.Authority\0\0\0\0\x03\x01s\0\x1d\0\0\0UnregisterAuthenticationAgent\0\0\0\x08\x01g\0\x09(sa{sv})s\0\0\x0c\0\0\0unix-process\0\0\0\00\0\0\0\x03\0\0\0pid\0\x01u\0\03\0\0\0\x0a\0\0\0start-time\0\x01t\0\0\0\0\0\0\0\x08\0\0\0\0\0\0\0\x06\0\0\0/agent\0";
     assert!(rt; is_written(alloc, call, "unregister", want)?);
     let call = Call::Respond {
-        cookie: text(alloc, b"1-0")?,
+        cookie: text(alloc, "1-0")?,
         identity: Identity::User(1000),
     };
     let want =
         b"l\x01\0\x010\0\0\0\x03\0\0\0\x97\0\0\0\x01\x01o\0%\0\0\0/org/freedesktop/PolicyKit1/Authority\0\0\0\x02\x01s\0$\0\0\0org.freedesktop.PolicyKit1.Authority\0\0\0\0\x03\x01s\0\x1b\0\0\0AuthenticationAgentResponse\0\0\0\0\0\x08\x01g\0\x09s(sa{sv})\0\0\x03\0\0\01-0\0\x09\0\0\0unix-user\0\0\0\x10\0\0\0\0\0\0\0\x03\0\0\0uid\0\x01u\0\0\xe8\x03\0\0";
     assert!(rt; is_written(alloc, call, "respond", want)?);
     let call = Call::Respond {
-        cookie: text(alloc, b"1-0")?,
+        cookie: text(alloc, "1-0")?,
         identity: Identity::Group(5),
     };
     let want =
@@ -143,13 +140,13 @@ fn calls_of_agents_are_written(rt: HostRuntime) -> Result<(), Fail> {
 fn other_calls_are_written(rt: HostRuntime) -> Result<(), Fail> {
     let alloc = rt.alloc();
     let call = Call::Cancel {
-        cancel: text(alloc, b"x")?,
+        cancel: text(alloc, "x")?,
     };
     let want =
         b"l\x01\0\x01\x06\0\0\0\x03\0\0\0\x8f\0\0\0\x01\x01o\0%\0\0\0/org/freedesktop/PolicyKit1/Authority\0\0\0\x02\x01s\0$\0\0\0org.freedesktop.PolicyKit1.Authority\0\0\0\0\x03\x01s\0\x18\0\0\0CancelCheckAuthorization\0\0\0\0\0\0\0\0\x08\x01g\0\x01s\0\0\x01\0\0\0x\0";
     assert!(rt; is_written(alloc, call, "cancel", want)?);
     let call = Call::EnumerateActions {
-        locale: text(alloc, b"de")?,
+        locale: text(alloc, "de")?,
     };
     let want =
         b"l\x01\0\x01\x07\0\0\0\x03\0\0\0\x87\0\0\0\x01\x01o\0%\0\0\0/org/freedesktop/PolicyKit1/Authority\0\0\0\x02\x01s\0$\0\0\0org.freedesktop.PolicyKit1.Authority\0\0\0\0\x03\x01s\0\x10\0\0\0EnumerateActions\0\0\0\0\0\0\0\0\x08\x01g\0\x01s\0\0\x02\0\0\0de\0";
@@ -163,7 +160,7 @@ fn other_calls_are_written(rt: HostRuntime) -> Result<(), Fail> {
         b"l\x01\0\x01H\0\0\0\x03\0\0\0\x96\0\0\0\x01\x01o\0%\0\0\0/org/freedesktop/PolicyKit1/Authority\0\0\0\x02\x01s\0$\0\0\0org.freedesktop.PolicyKit1.Authority\0\0\0\0\x03\x01s\0\x1d\0\0\0RevokeTemporaryAuthorizations\0\0\0\x08\x01g\0\x08(sa{sv})\0\0\0\x0c\0\0\0unix-process\0\0\0\00\0\0\0\x03\0\0\0pid\0\x01u\0\03\0\0\0\x0a\0\0\0start-time\0\x01t\0\0\0\0\0\0\0\x08\0\0\0\0\0\0\0";
     assert!(rt; is_written(alloc, call, "revoke all", want)?);
     let call = Call::RevokeOne {
-        id: text(alloc, b"tmpauthz0")?,
+        id: text(alloc, "tmpauthz0")?,
     };
     let want =
         b"l\x01\0\x01\x0e\0\0\0\x03\0\0\0\x97\0\0\0\x01\x01o\0%\0\0\0/org/freedesktop/PolicyKit1/Authority\0\0\0\x02\x01s\0$\0\0\0org.freedesktop.PolicyKit1.Authority\0\0\0\0\x03\x01s\0 \0\0\0RevokeTemporaryAuthorizationById\0\0\0\0\0\0\0\0\x08\x01g\0\x01s\0\0\x09\0\0\0tmpauthz0\0";
@@ -185,7 +182,7 @@ fn a_path_that_is_none_is_wrong(rt: HostRuntime) -> Result<(), Fail> {
     let alloc = rt.alloc();
     let call = Call::Unregister {
         subject: PROCESS,
-        path: text(alloc, b"agent")?,
+        path: text(alloc, "agent")?,
     };
     let want =
         b"l\x01\0\x01R\0\0\0\x03\0\0\0\x97\0\0\0\x01\x01o\0%\0\0\0/org/freedesktop/PolicyKit1/Authority\0\0\0\x02\x01s\0$\0\0\0org.freedesktop.PolicyKit1.Authority\0\0\0\0\x03\x01s\0\x1d\0\0\0UnregisterAuthenticationAgent\0\0\0\x08\x01g\0\x09(sa{sv})s\0\0\x0c\0\0\0unix-process\0\0\0\00\0\0\0\x03\0\0\0pid\0\x01u\0\03\0\0\0\x0a\0\0\0start-time\0\x01t\0\0\0\0\0\0\0\x08\0\0\0\0\0\0\0\x05\0\0\0agent\0";
@@ -200,13 +197,13 @@ fn a_check_can_be_too_long(rt: HostRuntime) -> Result<(), Fail> {
     let bytes = vec![in alloc; b'x'; 65535]?;
     let mut details = List::new(alloc);
     for _i in 0..128 {
-        let key = text(alloc, &bytes)?;
-        let value = text(alloc, &bytes)?;
+        let key = text_of_bytes(alloc, &bytes)?;
+        let value = text_of_bytes(alloc, &bytes)?;
         details.try_push(Pair { key, value })?;
     }
     let call = Call::Check {
         subject: PROCESS,
-        action: text(alloc, b"a.yes")?,
+        action: text(alloc, "a.yes")?,
         details,
         flags: 0,
         cancel: Text::new(alloc),

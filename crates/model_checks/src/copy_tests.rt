@@ -1,34 +1,35 @@
 // Copies with ample memory, the text that a locale chooses, and the identity that a text names.
 use authority_model::{
     Action, FileFault, Group, IdentityFault, Loaded, Localized, LocalizedList, Process, RuleEntry,
-    Session, User, localized,
+    Session, User, UserList, World, localized,
 };
-use pk_types::{ActionId, Identity, Implicit, List, Text, TextList, TryCopy};
+use pk_types::{ActionId, Identity, Implicit, List, TextList, TryCopy};
 use std::alloc::Global;
 use std::test::Fail;
-
-fn text(alloc: Global, bytes: &str) -> Result<Text, Fail> {
-    Ok(Text::try_from_bytes(alloc, bytes.as_bytes())?)
-}
+use test_values::{one, text};
 
 fn texts(alloc: Global, bytes: &str) -> Result<TextList, Fail> {
-    let mut texts = List::new(alloc);
-    texts.try_push(text(alloc, bytes)?)?;
-    Ok(texts)
+    Ok(one(alloc, text(alloc, bytes)?)?)
 }
 
-fn add(alloc: Global, list: &mut LocalizedList, lang: &str, words: &str) -> Result<(), Fail> {
+fn localized_text(alloc: Global, lang: &str, words: &str) -> Result<Localized, Fail> {
     let lang = text(alloc, lang)?;
     let text = text(alloc, words)?;
-    list.try_push(Localized { lang, text })?;
-    Ok(())
+    Ok(Localized { lang, text })
 }
+
+/// Language and text of a description.
+const DESCRIPTIONS: [(&str, &str); 3] = [
+    ("", "Set the clock"),
+    ("de", "Uhr stellen"),
+    ("da", "Indstil uret"),
+];
 
 fn descriptions(alloc: Global) -> Result<LocalizedList, Fail> {
     let mut list = List::new(alloc);
-    add(alloc, &mut list, "", "Set the clock")?;
-    add(alloc, &mut list, "de", "Uhr stellen")?;
-    add(alloc, &mut list, "da", "Indstil uret")?;
+    for (lang, words) in DESCRIPTIONS {
+        list.try_push(localized_text(alloc, lang, words)?)?;
+    }
     Ok(list)
 }
 
@@ -78,8 +79,8 @@ fn rule(alloc: Global) -> Result<RuleEntry, Fail> {
 
 fn load(alloc: Global) -> Result<Loaded, Fail> {
     let mut load = Loaded::empty(alloc);
-    load.policy.actions.try_push(action(alloc)?)?;
-    load.policy.entries.try_push(rule(alloc)?)?;
+    load.policy.actions = one(alloc, action(alloc)?)?;
+    load.policy.entries = one(alloc, rule(alloc)?)?;
     load.policy.admins = texts(alloc, "unix-group:wheel")?;
     Ok(load)
 }
@@ -158,13 +159,24 @@ fn numbered(alloc: Global) -> Result<User, Fail> {
     })
 }
 
+fn users(alloc: Global) -> Result<UserList, Fail> {
+    let mut users = one(alloc, user(alloc)?)?;
+    users.try_push(numbered(alloc)?)?;
+    Ok(users)
+}
+
+/// A world of two users and a group.
+fn named(alloc: Global) -> Result<World, Fail> {
+    let mut world = Loaded::empty(alloc).world;
+    world.users = users(alloc)?;
+    world.groups = one(alloc, group(alloc)?)?;
+    Ok(world)
+}
+
 #[test]
 fn identities_are_named(rt: HostRuntime) -> Result<(), Fail> {
     let alloc = rt.alloc();
-    let mut world = Loaded::empty(alloc).world;
-    world.users.try_push(user(alloc)?)?;
-    world.users.try_push(numbered(alloc)?)?;
-    world.groups.try_push(group(alloc)?)?;
+    let world = named(alloc)?;
     let rows = [
         ("unix-user:a", Ok(Identity::User(1000))),
         ("unix-group:w", Ok(Identity::Group(10))),

@@ -1,45 +1,60 @@
 // The rules of a type, each once with ample memory. What is wanted is said by the polkit manual.
 use authority_model::{
     ALLOW_USER_INTERACTION, Action, Cookie, ErrorCause, Event, GRANT_SECONDS, GrantRow, Group, Key,
-    KeyRef, Loaded, Process, RuleEntry, Session, User, World, allows_interaction, offers,
-    push_grant_text,
+    KeyRef, Loaded, Process, ProcessList, RuleEntry, Session, User, World, allows_interaction,
+    offers, push_grant_text,
 };
-use pk_types::{ActionId, Category, Identity, Implicit, List, Pair, Text, TryCopy};
+use pk_types::{ActionId, Category, Identity, Implicit, List, NoMemory, Pair, TryCopy};
 use std::alloc::Global;
 use std::test::Fail;
+use test_values::{one, text};
 
-fn text(alloc: Global, bytes: &str) -> Result<Text, Fail> {
-    Ok(Text::try_from_bytes(alloc, bytes.as_bytes())?)
-}
-
-/// Two processes of one pid, a session, a user and a group.
-fn world(alloc: Global) -> Result<World, Fail> {
-    let mut world = Loaded::empty(alloc).world;
-    world.users.try_push(User {
+fn alice(alloc: Global) -> Result<User, Fail> {
+    Ok(User {
         uid: 1000,
         name: text(alloc, "alice")?,
         label: text(alloc, "unix-user:alice")?,
         gids: List::new(alloc),
-    })?;
-    world.groups.try_push(Group {
+    })
+}
+
+fn wheel(alloc: Global) -> Result<Group, Fail> {
+    Ok(Group {
         gid: 10,
         name: text(alloc, "wheel")?,
         label: text(alloc, "unix-group:wheel")?,
-    })?;
-    world.sessions.try_push(Session {
+    })
+}
+
+fn seat(alloc: Global) -> Result<Session, Fail> {
+    Ok(Session {
         id: text(alloc, "s1")?,
         uid: 1000,
         local: true,
         active: true,
-    })?;
+    })
+}
+
+fn processes(alloc: Global) -> Result<ProcessList, NoMemory> {
+    let mut processes = List::new(alloc);
     for (start, uid) in [(7, 1000), (9, 1001)] {
-        world.processes.try_push(Process {
+        processes.try_push(Process {
             pid: 50,
             start,
             uid,
             session: None,
         })?;
     }
+    Ok(processes)
+}
+
+/// Two processes of one pid, a session, a user and a group.
+fn world(alloc: Global) -> Result<World, Fail> {
+    let mut world = Loaded::empty(alloc).world;
+    world.users = one(alloc, alice(alloc)?)?;
+    world.groups = one(alloc, wheel(alloc)?)?;
+    world.sessions = one(alloc, seat(alloc)?)?;
+    world.processes = processes(alloc)?;
     Ok(world)
 }
 
@@ -162,28 +177,55 @@ fn cookies_and_grants_have_texts(rt: HostRuntime) -> Result<(), Fail> {
     Ok(())
 }
 
-#[test]
-fn actions_and_rules_have_values(rt: HostRuntime) -> Result<(), Fail> {
-    let alloc = rt.alloc();
-    let id = ActionId::read(&text(alloc, "a.yes")?)?;
-    let mut action = Action::plain(alloc, id, Implicit::No, Implicit::AuthSelf, Implicit::Yes);
-    action.annotations.try_push(Pair {
+/// An action with the annotation `k`, whose value is `v`.
+fn annotated(alloc: Global) -> Result<Action, Fail> {
+    let pair = Pair {
         key: text(alloc, "k")?,
         value: text(alloc, "v")?,
-    })?;
-    assert!(rt; action.default_for(Category::Any) == Implicit::No);
-    assert!(rt; action.default_for(Category::Inactive) == Implicit::AuthSelf);
-    assert!(rt; action.default_for(Category::Active) == Implicit::Yes);
-    assert!(rt;
-        action
-            .annotation(b"k")
-            .is_some_and(|value| value.bytes() == b"v".as_slice())
-    );
-    assert!(rt; action.annotation(b"v").is_none());
+    };
+    let id = ActionId::read(&text(alloc, "a.yes")?)?;
+    let mut action = Action::plain(alloc, id, Implicit::No, Implicit::AuthSelf, Implicit::Yes);
+    action.annotations = one(alloc, pair)?;
+    Ok(action)
+}
+
+/// Whether an action has this annotation with the value `v`.
+fn is_annotated(action: &Action, key: &[u8]) -> bool {
+    match action.annotation(key) {
+        Some(value) => value.bytes() == b"v".as_slice(),
+        None => false,
+    }
+}
+
+#[test]
+fn actions_have_defaults_and_annotations(rt: HostRuntime) -> Result<(), Fail> {
+    let action = annotated(rt.alloc())?;
+    let rows = [
+        (Category::Any, Implicit::No),
+        (Category::Inactive, Implicit::AuthSelf),
+        (Category::Active, Implicit::Yes),
+    ];
+    for (category, value) in rows {
+        assert!(rt; action.default_for(category) == value);
+    }
+    assert!(rt; is_annotated(&action, b"k") && !is_annotated(&action, b"v"));
+    Ok(())
+}
+
+#[test]
+fn actions_are_found_by_their_ids(rt: HostRuntime) -> Result<(), Fail> {
+    let alloc = rt.alloc();
     let mut policy = Loaded::empty(alloc).policy;
-    policy.actions.try_push(action)?;
-    assert!(rt; policy.action(&text(alloc, "a.yes")?).is_some());
-    assert!(rt; policy.action(&text(alloc, "a")?).is_none());
+    policy.actions = one(alloc, annotated(alloc)?)?;
+    for (id, is_found) in [("a.yes", true), ("a", false)] {
+        assert!(rt; policy.action(&text(alloc, id)?).is_some() == is_found);
+    }
+    Ok(())
+}
+
+#[test]
+fn rules_have_values(rt: HostRuntime) {
+    let alloc = rt.alloc();
     let rule = RuleEntry {
         identities: List::new(alloc),
         actions: List::new(alloc),
@@ -192,10 +234,14 @@ fn actions_and_rules_have_values(rt: HostRuntime) -> Result<(), Fail> {
         active: Some(Implicit::Yes),
         pairs: List::new(alloc),
     };
-    assert!(rt; rule.value_for(Category::Any).is_none());
-    assert!(rt; rule.value_for(Category::Inactive) == Some(Implicit::No));
-    assert!(rt; rule.value_for(Category::Active) == Some(Implicit::Yes));
-    Ok(())
+    let rows = [
+        (Category::Any, None),
+        (Category::Inactive, Some(Implicit::No)),
+        (Category::Active, Some(Implicit::Yes)),
+    ];
+    for (category, value) in rows {
+        assert!(rt; rule.value_for(category) == value);
+    }
 }
 
 #[test]

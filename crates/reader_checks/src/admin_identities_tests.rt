@@ -1,13 +1,10 @@
 // Administrators with ample memory. The expected administrators are those of pklocalauthority(8).
 use admin_identities::expand;
-use authority_model::{Group, Loaded, User, World};
+use authority_model::{Group, Loaded, User, UserList, World};
 use pk_types::{Identity, List, Text, TextList};
 use std::alloc::Global;
 use std::test::Fail;
-
-fn text(alloc: Global, bytes: &str) -> Result<Text, Fail> {
-    Ok(Text::try_from_bytes(alloc, bytes.as_bytes())?)
-}
+use test_values::{one, text};
 
 fn words(alloc: Global, all: &[&str]) -> Result<TextList, Fail> {
     let mut words = List::new(alloc);
@@ -26,17 +23,31 @@ fn user(alloc: Global, uid: u32, name: &str, gids: &[u32]) -> Result<User, Fail>
     })
 }
 
+/// Uid, name and gids of a user.
+const USERS: [(u32, &str, &[u32]); 3] = [
+    (0, "root", &[0, 10]),
+    (1000, "ann", &[100, 10]),
+    (1001, "7", &[10]),
+];
+
+fn users(alloc: Global) -> Result<UserList, Fail> {
+    let mut users = List::new(alloc);
+    for (uid, name, gids) in USERS {
+        users.try_push(user(alloc, uid, name, gids)?)?;
+    }
+    Ok(users)
+}
+
 /// A group of root and two users, one of whom has a number for a name.
 fn world(alloc: Global) -> Result<World, Fail> {
-    let mut world = Loaded::empty(alloc).world;
-    world.groups.try_push(Group {
+    let wheel = Group {
         gid: 10,
         name: text(alloc, "wheel")?,
         label: Text::new(alloc),
-    })?;
-    world.users.try_push(user(alloc, 0, "root", &[0, 10])?)?;
-    world.users.try_push(user(alloc, 1000, "ann", &[100, 10])?)?;
-    world.users.try_push(user(alloc, 1001, "7", &[10])?)?;
+    };
+    let mut world = Loaded::empty(alloc).world;
+    world.groups = one(alloc, wheel)?;
+    world.users = users(alloc)?;
     Ok(world)
 }
 

@@ -1,11 +1,12 @@
 // Each call once: what files come to, each by itself and together.
 use pk_outside::{FileBytes, ListTree, TreeFile};
-use pk_types::{ByteList, List, Text};
+use pk_types::{ByteList, List};
 use policy_files::{Finding, Joined, TurnFile, file_count, find, find_each, join, read_files};
 use policy_turns::{FileKind, Turn};
 use std::alloc::{AllocError, Global};
 use std::fmt::Write;
 use std::test::Fail;
+use test_values::text;
 
 /// A file: its kind, its path, what it holds, and what it comes to.
 type Row = (FileKind, &'static str, &'static str, &'static str);
@@ -51,10 +52,6 @@ const ROWS: [Row; 9] = [
     (FileKind::Entries, "h", "[g]\n", "skipped h MissingKey 0"),
     (FileKind::Entries, "i", "[\n", "skipped i BadHeader 0"),
 ];
-
-fn text(alloc: Global, text: &str) -> Result<Text, Fail> {
-    Ok(Text::try_from_bytes(alloc, text.as_bytes())?)
-}
 
 /// The turns of the rows, and one of names that are no text.
 fn turns(alloc: Global) -> Result<Vec<Turn>, Fail> {

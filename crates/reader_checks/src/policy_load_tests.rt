@@ -1,11 +1,12 @@
 // The worked tree, on one thread and by several, and trees that fail or are over a limit.
 use authority_model::Loaded;
 use pk_outside::{ListTree, Tree, TreeDirectory, TreeFile};
-use pk_types::{ByteList, List, Text, TextList};
+use pk_types::{ByteList, List, TextList};
 use policy_load::{LoadLimit, LoadRefused, load, load_beside};
 use std::alloc::{AllocError, Global};
 use std::fmt::Write;
 use std::test::Fail;
+use test_values::text;
 
 /// The action file of the worked tree.
 const CLOCK: &str = "<?xml version=\"1.0\" encoding=\"UTF-8\"?>
@@ -93,10 +94,6 @@ const DIRECTORIES: [(&str, &[&str]); 7] = [
     ("/r/etc/polkit-1/localauthority/50-local.d", &["bad.pkla"]),
     ("/r/etc/polkit-1/localauthority/90-mandatory.d", &["z.pkla"]),
 ];
-
-fn text(alloc: Global, text: &str) -> Result<Text, Fail> {
-    Ok(Text::try_from_bytes(alloc, text.as_bytes())?)
-}
 
 fn file(alloc: Global, directory: &str, name: &str, bytes: &str) -> Result<TreeFile, Fail> {
     let path = format!(in alloc; "{directory}/{name}")?;

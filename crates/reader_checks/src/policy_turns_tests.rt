@@ -1,10 +1,11 @@
 // Each call once, over a tree in memory.
 use pk_outside::{FileBytes, ListTree, Names, TreeDirectory, TreeFile};
-use pk_types::{ByteList, List, Text, TextList};
+use pk_types::{ByteList, List, TextList};
 use policy_turns::{FileKind, Turn, below, names_at, read_at, turns};
 use std::alloc::{AllocError, Global};
 use std::fmt::Write;
 use std::test::Fail;
+use test_values::text;
 
 /// The directories of a small root: their paths, their names, and how many of these are not text.
 const DIRECTORIES: [(&str, &[&str], u32); 7] = [
@@ -45,10 +46,6 @@ Entries /r/etc/polkit-1/localauthority/10-v.d/a.pkla
 Entries /r/etc/polkit-1/localauthority/50-l.d/b.pkla
 Entries /r/etc/polkit-1/localauthority/50-l.d/c.pkla
 ";
-
-fn text(alloc: Global, text: &str) -> Result<Text, Fail> {
-    Ok(Text::try_from_bytes(alloc, text.as_bytes())?)
-}
 
 fn directory(alloc: Global, row: (&str, &[&str], u32)) -> Result<TreeDirectory, Fail> {
     let (path, names, unnamed) = row;

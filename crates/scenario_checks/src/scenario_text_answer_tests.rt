@@ -8,26 +8,26 @@ use pk_types::{ActionId, Category, Identity, Implicit, List, Pair, PairList, Tex
 use scenario_text::{answer_text, skipped_text};
 use std::alloc::Global;
 use std::test::Fail;
+use test_values::{one, text, text_of_bytes};
 
-fn text(alloc: Global, bytes: &[u8]) -> Result<Text, Fail> {
-    Ok(Text::try_from_bytes(alloc, bytes)?)
+fn action(alloc: Global) -> Result<Action, Fail> {
+    let id = ActionId::read(&text(alloc, "a.yes")?)?;
+    Ok(Action::plain(
+        alloc,
+        id,
+        Implicit::Yes,
+        Implicit::Yes,
+        Implicit::Yes,
+    ))
 }
 
 /// A history with one load, which has one action.
 fn one_load(alloc: Global) -> Result<History, Fail> {
     let mut loaded = Loaded::empty(alloc);
-    loaded.policy.actions.try_push(Action::plain(
-        alloc,
-        ActionId::read(&text(alloc, b"a.yes")?)?,
-        Implicit::Yes,
-        Implicit::Yes,
-        Implicit::Yes,
-    ))?;
-    let mut loads = List::new(alloc);
-    loads.try_push(loaded)?;
+    loaded.policy.actions = one(alloc, action(alloc)?)?;
     Ok(History {
         entries: List::new(alloc),
-        loads,
+        loads: one(alloc, loaded)?,
     })
 }
 
@@ -78,7 +78,7 @@ fn reasons_are_printed(rt: HostRuntime) -> Result<(), Fail> {
     for (reason, want) in rows {
         assert!(rt; is_verdict(alloc, reason, want)?, "{want}");
     }
-    let implied = Reason::Imply(text(alloc, b"i.c")?);
+    let implied = Reason::Imply(text(alloc, "i.c")?);
     assert!(rt; is_verdict(alloc, implied, "4 9 no imply:i.c\n")?);
     Ok(())
 }
@@ -86,11 +86,11 @@ fn reasons_are_printed(rt: HostRuntime) -> Result<(), Fail> {
 fn two_pairs(alloc: Global) -> Result<PairList, Fail> {
     let mut pairs = List::new(alloc);
     pairs.try_push(Pair {
-        key: text(alloc, b"a b")?,
-        value: text(alloc, b"100%\xc3\xa9~\x7f")?,
+        key: text(alloc, "a b")?,
+        value: text_of_bytes(alloc, b"100%\xc3\xa9~\x7f")?,
     })?;
     pairs.try_push(Pair {
-        key: text(alloc, b"c")?,
+        key: text(alloc, "c")?,
         value: Text::new(alloc),
     })?;
     Ok(pairs)
@@ -145,7 +145,7 @@ fn verdicts_are_printed(rt: HostRuntime) -> Result<(), Fail> {
 fn grant(alloc: Global, id: u64) -> Result<GrantRow, Fail> {
     Ok(GrantRow {
         id,
-        action: text(alloc, b"a.self")?,
+        action: text(alloc, "a.self")?,
         key: Key::Process {
             pid: 50,
             start: 7,
@@ -160,7 +160,7 @@ fn grant(alloc: Global, id: u64) -> Result<GrantRow, Fail> {
 fn answers_are_printed(rt: HostRuntime) -> Result<(), Fail> {
     let alloc = rt.alloc();
     assert!(rt; is_answered(alloc, Answer::Done, "4 9 done\n")?);
-    let name = Answer::Name(text(alloc, b":1.1")?);
+    let name = Answer::Name(text(alloc, ":1.1")?);
     assert!(rt; is_answered(alloc, name, "4 9 name :1.1\n")?);
     let refused = Answer::Refused(ErrorCause::NotTrusted);
     assert!(rt; is_answered(alloc, refused, "4 9 error NotAuthorized not-trusted\n")?);
@@ -197,8 +197,8 @@ fn messages_are_printed(rt: HostRuntime) -> Result<(), Fail> {
     identities.try_push(Identity::User(1000))?;
     identities.try_push(Identity::User(0))?;
     let begin = Message::Begin {
-        path: text(alloc, b"/agent")?,
-        action: text(alloc, b"a.self")?,
+        path: text(alloc, "/agent")?,
+        action: text(alloc, "a.self")?,
         text: Text::new(alloc),
         icon: Text::new(alloc),
         details: List::new(alloc),
@@ -208,7 +208,7 @@ fn messages_are_printed(rt: HostRuntime) -> Result<(), Fail> {
     let want = "4 begin 2 1-000000000000000000000000000012ab a.self user:1000,user:0\n";
     assert!(rt; is_printed(alloc, begin, want)?);
     let end = Message::CancelBegin {
-        path: text(alloc, b"/agent")?,
+        path: text(alloc, "/agent")?,
         cookie,
     };
     assert!(rt; is_printed(alloc, end, "4 end 1-000000000000000000000000000012ab\n")?);
@@ -220,8 +220,8 @@ fn messages_are_printed(rt: HostRuntime) -> Result<(), Fail> {
 
 fn report(alloc: Global, file: &[u8], kind: &[u8], at: u64) -> Result<FileFault, Fail> {
     Ok(FileFault {
-        file: text(alloc, file)?,
-        kind: text(alloc, kind)?,
+        file: text_of_bytes(alloc, file)?,
+        kind: text_of_bytes(alloc, kind)?,
         at,
     })
 }

@@ -4,6 +4,7 @@ use authority_model::{
 };
 use pk_types::{ActionId, Implicit, List, NoMemory, Subject, Text};
 use std::alloc::Global;
+use test_values::{one, text, text_of_bytes};
 
 /// How many turns a thread has.
 pub const TURNS: u32 = 200;
@@ -76,22 +77,14 @@ pub fn turn_at(caller: u32, number: u32) -> Turn {
 /// The one process.
 const SUBJECT: Subject = Subject::Process { pid: 5, start: 5 };
 
-/// A text of these bytes.
-fn text(alloc: Global, bytes: &[u8]) -> Result<Text, NoMemory> {
-    match Text::try_from_bytes(alloc, bytes) {
-        Ok(text) => Ok(text),
-        Err(_) => Err(NoMemory),
-    }
-}
-
 /// A check that may be cancelled.
 fn check(alloc: Global, id: &[u8]) -> Result<Call, NoMemory> {
     Ok(Call::Check {
         subject: SUBJECT,
-        action: text(alloc, id)?,
+        action: text_of_bytes(alloc, id)?,
         details: List::new(alloc),
         flags: 1,
-        cancel: text(alloc, b"c")?,
+        cancel: text(alloc, "c")?,
     })
 }
 
@@ -100,7 +93,7 @@ fn registration(alloc: Global) -> Result<Call, NoMemory> {
     Ok(Call::Register {
         subject: SUBJECT,
         locale: Text::new(alloc),
-        path: text(alloc, b"/a")?,
+        path: text(alloc, "/a")?,
     })
 }
 
@@ -111,12 +104,12 @@ fn call_of(alloc: Global, turn: Turn) -> Result<Option<Call>, NoMemory> {
         Turn::Ask => Some(check(alloc, b"a.ask")?),
         Turn::CheckUnknown => Some(check(alloc, b"a.none")?),
         Turn::Cancel => Some(Call::Cancel {
-            cancel: text(alloc, b"c")?,
+            cancel: text(alloc, "c")?,
         }),
         Turn::Register => Some(registration(alloc)?),
         Turn::Unregister => Some(Call::Unregister {
             subject: SUBJECT,
-            path: text(alloc, b"/a")?,
+            path: text(alloc, "/a")?,
         }),
         Turn::Enumerate => Some(Call::EnumerateActions {
             locale: Text::new(alloc),
@@ -202,20 +195,23 @@ pub fn is_same_output(one: &Output, other: &Output) -> bool {
     one.to == other.to && told_by(one) == told_by(other)
 }
 
+/// The action for which users authenticate.
+fn asked(alloc: Global) -> Result<Action, NoMemory> {
+    let id = ActionId::read(&text(alloc, "a.ask")?).map_err(|_| NoMemory)?;
+    let ask = Implicit::AuthSelf;
+    Ok(Action::plain(alloc, id, ask, ask, ask))
+}
+
 /// A load with the one action and the one process.
 pub fn one_load(alloc: Global) -> Result<Loaded, NoMemory> {
-    let id = ActionId::read(&text(alloc, b"a.ask")?).map_err(|_| NoMemory)?;
-    let ask = Implicit::AuthSelf;
-    let mut loaded = Loaded::empty(alloc);
-    loaded
-        .policy
-        .actions
-        .try_push(Action::plain(alloc, id, ask, ask, ask))?;
-    loaded.world.processes.try_push(Process {
+    let process = Process {
         pid: 5,
         start: 5,
         uid: 1000,
         session: None,
-    })?;
+    };
+    let mut loaded = Loaded::empty(alloc);
+    loaded.policy.actions = one(alloc, asked(alloc)?)?;
+    loaded.world.processes = one(alloc, process)?;
     Ok(loaded)
 }

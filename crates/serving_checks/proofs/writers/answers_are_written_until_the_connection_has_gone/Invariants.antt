@@ -1,4 +1,4 @@
-use Rattle.connection_writer.proofs.tests.answers_are_written_until_the_connection_has_gone.Given as goal
+use Rattle.serving_checks.proofs.writers.answers_are_written_until_the_connection_has_gone.Given as goal
 
 -- the limits that are handed in
 abbrev pub ghosts-name_limits : goal.ghosts-name_limits

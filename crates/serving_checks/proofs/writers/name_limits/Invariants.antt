@@ -1,4 +1,4 @@
-use Rattle.connection_writer.proofs.tests.name_limits.Given as goal
+use Rattle.serving_checks.proofs.writers.name_limits.Given as goal
 
 -- the table that was just opened
 abbrev pub ghosts-write_each : goal.ghosts-write_each

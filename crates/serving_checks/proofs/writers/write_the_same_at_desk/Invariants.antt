@@ -1,6 +1,6 @@
 -- How writing at the desk begins.
 use Rattle.std.proofs.Common.{Some}
-use Rattle.connection_writer.proofs.tests.write_the_same_at_desk.Given as goal
+use Rattle.serving_checks.proofs.writers.write_the_same_at_desk.Given as goal
 
 abbrev pub ghosts-write_at_desk : goal.ghosts-write_at_desk
 ghosts-write_at_desk g a = record {
