@@ -140,9 +140,11 @@ fn some_processes(alloc: Global) -> Result<ProcessList, NoMemory> {
 }
 
 fn some_load(alloc: Global) -> Result<Loaded, Fail> {
+    let actions = some_actions(alloc)?;
+    let processes = some_processes(alloc)?;
     let mut loaded = Loaded::empty(alloc);
-    loaded.policy.actions = some_actions(alloc)?;
-    loaded.world.processes = some_processes(alloc)?;
+    loaded.policy.actions = actions;
+    loaded.world.processes = processes;
     Ok(loaded)
 }
 

@@ -35,9 +35,11 @@ fn load(alloc: Global) -> Result<Loaded, Fail>
         uid: 1000,
         session: None,
     };
+    let actions = one(alloc, keep(alloc)?)?;
+    let processes = one(alloc, process)?;
     let mut loaded = Loaded::empty(alloc);
-    loaded.policy.actions = one(alloc, keep(alloc)?)?;
-    loaded.world.processes = one(alloc, process)?;
+    loaded.policy.actions = actions;
+    loaded.world.processes = processes;
     Ok(loaded)
 }
 

@@ -75,9 +75,11 @@ fn world(alloc: Global) -> Result<World, Fail> {
         uid: 1000,
         session: Some(text(alloc, "s1")?),
     };
+    let sessions = one(alloc, session)?;
+    let processes = one(alloc, process)?;
     let mut world = Loaded::empty(alloc).world;
-    world.sessions = one(alloc, session)?;
-    world.processes = one(alloc, process)?;
+    world.sessions = sessions;
+    world.processes = processes;
     Ok(world)
 }
 
@@ -85,9 +87,11 @@ fn load(alloc: Global) -> Result<Loaded, Fail>
     ensures actions { IfOk result (λ l. IsShort l.policy.actions) }
     ensures entries { IfOk result (λ l. IsShort l.policy.entries) }
 {
+    let actions = actions(alloc)?;
+    let world = world(alloc)?;
     let mut loaded = Loaded::empty(alloc);
-    loaded.policy.actions = actions(alloc)?;
-    loaded.world = world(alloc)?;
+    loaded.policy.actions = actions;
+    loaded.world = world;
     Ok(loaded)
 }
 

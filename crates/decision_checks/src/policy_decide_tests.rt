@@ -3,7 +3,8 @@ ghost use Rattle.std.specs.Prelude.{IfOk};
 ghost use Rattle.authority_model.specs.Small.{IsShort};
 
 use authority_model::{
-    Action, Group, GroupList, Loaded, Policy, RuleEntry, RuleList, RuleSource, User, UserList, World,
+    Action, Group, GroupList, Loaded, Policy, RuleEntry, RuleList, RuleSource, User, UserList,
+    World,
 };
 use pk_types::{ActionId, Category, Implicit, List, NoMemory, Text, TextList};
 use policy_decide::implicit;
@@ -59,9 +60,11 @@ fn rules(alloc: Global) -> Result<RuleList, Fail>
 fn policy(alloc: Global) -> Result<Policy, Fail>
     ensures entries { IfOk result (λ policy. IsShort policy.entries) }
 {
+    let actions = one(alloc, set_clock(alloc)?)?;
+    let entries = rules(alloc)?;
     let mut policy = Loaded::empty(alloc).policy;
-    policy.actions = one(alloc, set_clock(alloc)?)?;
-    policy.entries = rules(alloc)?;
+    policy.actions = actions;
+    policy.entries = entries;
     Ok(policy)
 }
 
@@ -106,9 +109,11 @@ fn users(alloc: Global) -> Result<UserList, Fail> {
 }
 
 fn world(alloc: Global) -> Result<World, Fail> {
+    let groups = groups(alloc)?;
+    let users = users(alloc)?;
     let mut world = Loaded::empty(alloc).world;
-    world.groups = groups(alloc)?;
-    world.users = users(alloc)?;
+    world.groups = groups;
+    world.users = users;
     Ok(world)
 }
 

@@ -48,9 +48,11 @@ fn processes(alloc: Global) -> Result<ProcessList, Fail> {
 }
 
 fn world(alloc: Global) -> Result<World, Fail> {
+    let sessions = sessions(alloc)?;
+    let processes = processes(alloc)?;
     let mut world = Loaded::empty(alloc).world;
-    world.sessions = sessions(alloc)?;
-    world.processes = processes(alloc)?;
+    world.sessions = sessions;
+    world.processes = processes;
     Ok(world)
 }
 

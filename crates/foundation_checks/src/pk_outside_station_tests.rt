@@ -26,9 +26,11 @@ fn links(alloc: Global, all: &[[u8; 2]]) -> Result<List<ByteLink>, Fail> {
 
 /// A door with these links, whose call of `accept` with this number fails.
 fn door(alloc: Global, all: &[[u8; 2]], failing: u64) -> Result<DoorPlan, Fail> {
+    let links = links(alloc, all)?;
+    let failing = vec![in alloc; failing]?;
     let mut plan = DoorPlan::empty(alloc);
-    plan.links = links(alloc, all)?;
-    plan.failing = vec![in alloc; failing]?;
+    plan.links = links;
+    plan.failing = failing;
     Ok(plan)
 }
 
@@ -48,13 +50,19 @@ fn doors(alloc: Global) -> Result<List<DoorPlan>, Fail> {
 /// `door` and the first call of `dial` fail.
 fn plan(alloc: Global) -> Result<StationPlan, Fail> {
     let readings = Readings::new(vec![in alloc; 5, 9_000_000_000_000_000_000]?);
+    let doors = doors(alloc)?;
+    let links = one(alloc, link(alloc, *b"gh", 1)?)?;
+    let clocks = one(alloc, readings)?;
+    let salts = one(alloc, one(alloc, 7)?)?;
+    let failing_doors = vec![in alloc; 3]?;
+    let failing_dials = vec![in alloc; 1]?;
     let mut plan = StationPlan::empty(alloc);
-    plan.doors = doors(alloc)?;
-    plan.links = one(alloc, link(alloc, *b"gh", 1)?)?;
-    plan.clocks = one(alloc, readings)?;
-    plan.salts = one(alloc, one(alloc, 7)?)?;
-    plan.failing_doors = vec![in alloc; 3]?;
-    plan.failing_dials = vec![in alloc; 1]?;
+    plan.doors = doors;
+    plan.links = links;
+    plan.clocks = clocks;
+    plan.salts = salts;
+    plan.failing_doors = failing_doors;
+    plan.failing_dials = failing_dials;
     Ok(plan)
 }
 

@@ -318,26 +318,33 @@ fn plain(alloc: Global, id: usize) -> Result<Action, Fail> {
 }
 
 fn action_cost(alloc: Global, action: Action) -> Result<u64, Fail> {
+    let actions = one(alloc, action)?;
     let mut loaded = Loaded::empty(alloc);
-    loaded.policy.actions = one(alloc, action)?;
+    loaded.policy.actions = actions;
     Ok(cost_of_load(&loaded))
 }
 
 /// An action with a description, a message and a vendor.
 fn described(alloc: Global) -> Result<Action, Fail> {
+    let descriptions = localized(alloc, 2, 4)?;
+    let messages = localized(alloc, 8, 16)?;
+    let vendor = text(alloc, 32)?;
     let mut action = plain(alloc, 1)?;
-    action.descriptions = localized(alloc, 2, 4)?;
-    action.messages = localized(alloc, 8, 16)?;
-    action.vendor = text(alloc, 32)?;
+    action.descriptions = descriptions;
+    action.messages = messages;
+    action.vendor = vendor;
     Ok(action)
 }
 
 /// An action with an address, an icon and an annotation.
 fn annotated(alloc: Global) -> Result<Action, Fail> {
+    let vendor_url = text(alloc, 2)?;
+    let icon = text(alloc, 4)?;
+    let annotations = pairs(alloc, 8, 16)?;
     let mut action = plain(alloc, 1)?;
-    action.vendor_url = text(alloc, 2)?;
-    action.icon = text(alloc, 4)?;
-    action.annotations = pairs(alloc, 8, 16)?;
+    action.vendor_url = vendor_url;
+    action.icon = icon;
+    action.annotations = annotations;
     Ok(action)
 }
 
@@ -367,15 +374,24 @@ fn rule(alloc: Global) -> Result<RuleEntry, Fail> {
     })
 }
 
+fn rule_cost(alloc: Global) -> Result<u64, Fail> {
+    let entries = one(alloc, rule(alloc)?)?;
+    let mut loaded = Loaded::empty(alloc);
+    loaded.policy.entries = entries;
+    Ok(cost_of_load(&loaded))
+}
+
+fn administrators_cost(alloc: Global) -> Result<u64, Fail> {
+    let admins = texts(alloc, 1, 2)?;
+    let mut loaded = Loaded::empty(alloc);
+    loaded.policy.admins = admins;
+    Ok(cost_of_load(&loaded))
+}
+
 #[test]
 fn rules_and_administrators_cost_their_texts(rt: HostRuntime) -> Result<(), Fail> {
-    let alloc = rt.alloc();
-    let mut loaded = Loaded::empty(alloc);
-    loaded.policy.entries = one(alloc, rule(alloc)?)?;
-    assert_eq!(rt; cost_of_load(&loaded), 64 + 64 + 31);
-    let mut loaded = Loaded::empty(alloc);
-    loaded.policy.admins = texts(alloc, 1, 2)?;
-    assert_eq!(rt; cost_of_load(&loaded), 3);
+    assert_eq!(rt; rule_cost(rt.alloc())?, 64 + 64 + 31);
+    assert_eq!(rt; administrators_cost(rt.alloc())?, 3);
     Ok(())
 }
 
@@ -384,8 +400,9 @@ fn what_was_skipped_costs_its_texts(rt: HostRuntime) -> Result<(), Fail> {
     let alloc = rt.alloc();
     let file = text(alloc, 1)?;
     let kind = text(alloc, 2)?;
+    let faults = one(alloc, FileFault { file, kind, at: 3 })?;
     let mut loaded = Loaded::empty(alloc);
-    loaded.faults = one(alloc, FileFault { file, kind, at: 3 })?;
+    loaded.faults = faults;
     assert_eq!(rt; cost_of_load(&loaded), 3);
     Ok(())
 }
@@ -425,30 +442,48 @@ fn process(session: Option<Text>) -> Process {
     }
 }
 
-#[test]
-fn users_and_groups_cost_their_texts_and_memberships(rt: HostRuntime) -> Result<(), Fail> {
-    let alloc = rt.alloc();
+fn user_cost(alloc: Global) -> Result<u64, Fail> {
+    let users = one(alloc, user(alloc)?)?;
     let mut loaded = Loaded::empty(alloc);
-    loaded.world.users = one(alloc, user(alloc)?)?;
-    assert_eq!(rt; cost_of_load(&loaded), 64 + 3 * 64 + 3);
+    loaded.world.users = users;
+    Ok(cost_of_load(&loaded))
+}
+
+fn group_cost(alloc: Global) -> Result<u64, Fail> {
+    let groups = one(alloc, group(alloc)?)?;
     let mut loaded = Loaded::empty(alloc);
-    loaded.world.groups = one(alloc, group(alloc)?)?;
-    assert_eq!(rt; cost_of_load(&loaded), 64 + 12);
-    Ok(())
+    loaded.world.groups = groups;
+    Ok(cost_of_load(&loaded))
 }
 
 #[test]
-fn sessions_and_processes_cost_the_ids_of_sessions(rt: HostRuntime) -> Result<(), Fail> {
-    let alloc = rt.alloc();
+fn users_and_groups_cost_their_texts_and_memberships(rt: HostRuntime) -> Result<(), Fail> {
+    assert_eq!(rt; user_cost(rt.alloc())?, 64 + 3 * 64 + 3);
+    assert_eq!(rt; group_cost(rt.alloc())?, 64 + 12);
+    Ok(())
+}
+
+fn session_cost(alloc: Global) -> Result<u64, Fail> {
+    let sessions = one(alloc, seat(alloc)?)?;
     let mut loaded = Loaded::empty(alloc);
-    loaded.world.sessions = one(alloc, seat(alloc)?)?;
-    assert_eq!(rt; cost_of_load(&loaded), 64 + 16);
+    loaded.world.sessions = sessions;
+    Ok(cost_of_load(&loaded))
+}
+
+/// What two processes cost, the first of which is in a session.
+fn processes_cost(alloc: Global) -> Result<u64, Fail> {
     let id = text(alloc, 32)?;
     let mut processes = one(alloc, process(Some(id)))?;
     processes.try_push(process(None))?;
     let mut loaded = Loaded::empty(alloc);
     loaded.world.processes = processes;
-    assert_eq!(rt; cost_of_load(&loaded), 64 + 32 + 64);
+    Ok(cost_of_load(&loaded))
+}
+
+#[test]
+fn sessions_and_processes_cost_the_ids_of_sessions(rt: HostRuntime) -> Result<(), Fail> {
+    assert_eq!(rt; session_cost(rt.alloc())?, 64 + 16);
+    assert_eq!(rt; processes_cost(rt.alloc())?, 64 + 32 + 64);
     Ok(())
 }
 

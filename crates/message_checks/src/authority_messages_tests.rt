@@ -53,8 +53,9 @@ fn action(alloc: Global) -> Result<Action, Fail> {
 
 /// A history with one load, which has one action.
 fn one_load(alloc: Global) -> Result<History, Fail> {
+    let actions = one(alloc, action(alloc)?)?;
     let mut loaded = Loaded::empty(alloc);
-    loaded.policy.actions = one(alloc, action(alloc)?)?;
+    loaded.policy.actions = actions;
     Ok(History {
         entries: List::new(alloc),
         loads: one(alloc, loaded)?,
@@ -386,8 +387,9 @@ fn long_pairs(alloc: Global) -> Result<PairList, Fail> {
 #[test]
 fn what_is_too_long_is_an_error(rt: HostRuntime) -> Result<(), Fail> {
     let alloc = rt.alloc();
+    let pairs = long_pairs(alloc)?;
     let mut verdict = told(alloc, true, Reason::Entry(0));
-    verdict.pairs = long_pairs(alloc)?;
+    verdict.pairs = pairs;
     let want =
         b"l\x03\x01\x01\x1b\0\0\0\x02\0\0\0G\0\0\0\x04\x01s\0)\0\0\0org.freedesktop.DBus.Error.LimitsExceeded\0\0\0\0\0\0\0\x05\x01u\0\x09\0\0\0\x08\x01g\0\x01s\0\0\x16\0\0\0The answer is too long\0";
     assert!(rt; is_answered(alloc, Answer::Verdict(verdict), want)?);

@@ -78,10 +78,13 @@ fn rule(alloc: Global) -> Result<RuleEntry, Fail> {
 }
 
 fn load(alloc: Global) -> Result<Loaded, Fail> {
+    let actions = one(alloc, action(alloc)?)?;
+    let entries = one(alloc, rule(alloc)?)?;
+    let admins = texts(alloc, "unix-group:wheel")?;
     let mut load = Loaded::empty(alloc);
-    load.policy.actions = one(alloc, action(alloc)?)?;
-    load.policy.entries = one(alloc, rule(alloc)?)?;
-    load.policy.admins = texts(alloc, "unix-group:wheel")?;
+    load.policy.actions = actions;
+    load.policy.entries = entries;
+    load.policy.admins = admins;
     Ok(load)
 }
 
@@ -167,9 +170,11 @@ fn users(alloc: Global) -> Result<UserList, Fail> {
 
 /// A world of two users and a group.
 fn named(alloc: Global) -> Result<World, Fail> {
+    let users = users(alloc)?;
+    let groups = one(alloc, group(alloc)?)?;
     let mut world = Loaded::empty(alloc).world;
-    world.users = users(alloc)?;
-    world.groups = one(alloc, group(alloc)?)?;
+    world.users = users;
+    world.groups = groups;
     Ok(world)
 }
 

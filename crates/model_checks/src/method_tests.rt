@@ -50,11 +50,15 @@ fn processes(alloc: Global) -> Result<ProcessList, NoMemory> {
 
 /// Two processes of one pid, a session, a user and a group.
 fn world(alloc: Global) -> Result<World, Fail> {
+    let users = one(alloc, alice(alloc)?)?;
+    let groups = one(alloc, wheel(alloc)?)?;
+    let sessions = one(alloc, seat(alloc)?)?;
+    let processes = processes(alloc)?;
     let mut world = Loaded::empty(alloc).world;
-    world.users = one(alloc, alice(alloc)?)?;
-    world.groups = one(alloc, wheel(alloc)?)?;
-    world.sessions = one(alloc, seat(alloc)?)?;
-    world.processes = processes(alloc)?;
+    world.users = users;
+    world.groups = groups;
+    world.sessions = sessions;
+    world.processes = processes;
     Ok(world)
 }
 
@@ -183,9 +187,10 @@ fn annotated(alloc: Global) -> Result<Action, Fail> {
         key: text(alloc, "k")?,
         value: text(alloc, "v")?,
     };
+    let annotations = one(alloc, pair)?;
     let id = ActionId::read(&text(alloc, "a.yes")?)?;
     let mut action = Action::plain(alloc, id, Implicit::No, Implicit::AuthSelf, Implicit::Yes);
-    action.annotations = one(alloc, pair)?;
+    action.annotations = annotations;
     Ok(action)
 }
 
@@ -215,8 +220,9 @@ fn actions_have_defaults_and_annotations(rt: HostRuntime) -> Result<(), Fail> {
 #[test]
 fn actions_are_found_by_their_ids(rt: HostRuntime) -> Result<(), Fail> {
     let alloc = rt.alloc();
+    let actions = one(alloc, annotated(alloc)?)?;
     let mut policy = Loaded::empty(alloc).policy;
-    policy.actions = one(alloc, annotated(alloc)?)?;
+    policy.actions = actions;
     for (id, is_found) in [("a.yes", true), ("a", false)] {
         assert!(rt; policy.action(&text(alloc, id)?).is_some() == is_found);
     }

@@ -45,9 +45,11 @@ fn world(alloc: Global) -> Result<World, Fail> {
         name: text(alloc, "wheel")?,
         label: Text::new(alloc),
     };
+    let groups = one(alloc, wheel)?;
+    let users = users(alloc)?;
     let mut world = Loaded::empty(alloc).world;
-    world.groups = one(alloc, wheel)?;
-    world.users = users(alloc)?;
+    world.groups = groups;
+    world.users = users;
     Ok(world)
 }
 

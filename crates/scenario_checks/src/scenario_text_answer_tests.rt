@@ -12,19 +12,14 @@ use test_values::{one, text, text_of_bytes};
 
 fn action(alloc: Global) -> Result<Action, Fail> {
     let id = ActionId::read(&text(alloc, "a.yes")?)?;
-    Ok(Action::plain(
-        alloc,
-        id,
-        Implicit::Yes,
-        Implicit::Yes,
-        Implicit::Yes,
-    ))
+    Ok(Action::plain(alloc, id, Implicit::Yes, Implicit::Yes, Implicit::Yes))
 }
 
 /// A history with one load, which has one action.
 fn one_load(alloc: Global) -> Result<History, Fail> {
+    let actions = one(alloc, action(alloc)?)?;
     let mut loaded = Loaded::empty(alloc);
-    loaded.policy.actions = one(alloc, action(alloc)?)?;
+    loaded.policy.actions = actions;
     Ok(History {
         entries: List::new(alloc),
         loads: one(alloc, loaded)?,

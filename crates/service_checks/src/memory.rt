@@ -5,7 +5,7 @@ use pk_outside::{
     ByteLink, ByteSink, ByteSource, DoorPlan, ListStation, ListTree, Sink, Station, StationPlan,
     Tree,
 };
-use pk_types::{NoMemory, Text};
+use pk_types::{List, NoMemory, Text};
 use serve_words::read_plan;
 use std::alloc::Global;
 use std::sync::Wait;
@@ -106,23 +106,29 @@ fn link(alloc: Global, row: &LinkRow, calls: Calls) -> Result<ByteLink, NoMemory
 
 /// What a door with these links gives.
 fn door(alloc: Global, rows: &[LinkRow], calls: Calls) -> Result<DoorPlan, NoMemory> {
-    let mut plan = DoorPlan::empty(alloc);
+    let mut links = List::new(alloc);
     for row in rows {
-        plan.links.try_push(link(alloc, row, calls)?)?;
+        links.try_push(link(alloc, row, calls)?)?;
     }
-    plan.failing = vec![in alloc; calls.accept]?;
+    let failing = vec![in alloc; calls.accept]?;
+    let mut plan = DoorPlan::empty(alloc);
+    plan.links = links;
+    plan.failing = failing;
     Ok(plan)
 }
 
 /// The station of a scene.
 fn station(alloc: Global, scene: &Scene) -> Result<ListStation, NoMemory> {
-    let mut plan = StationPlan::empty(alloc);
     let mut calls = scene.fault.calls();
-    plan.failing_doors = vec![in alloc; calls.door]?;
+    let failing_doors = vec![in alloc; calls.door]?;
+    let mut doors = List::new(alloc);
     for rows in scene.doors {
-        plan.doors.try_push(door(alloc, rows, calls)?)?;
+        doors.try_push(door(alloc, rows, calls)?)?;
         calls = NONE;
     }
+    let mut plan = StationPlan::empty(alloc);
+    plan.doors = doors;
+    plan.failing_doors = failing_doors;
     Ok(ListStation::new(alloc, plan))
 }
 

@@ -210,8 +210,10 @@ pub fn one_load(alloc: Global) -> Result<Loaded, NoMemory> {
         uid: 1000,
         session: None,
     };
+    let actions = one(alloc, asked(alloc)?)?;
+    let processes = one(alloc, process)?;
     let mut loaded = Loaded::empty(alloc);
-    loaded.policy.actions = one(alloc, asked(alloc)?)?;
-    loaded.world.processes = one(alloc, process)?;
+    loaded.policy.actions = actions;
+    loaded.world.processes = processes;
     Ok(loaded)
 }
