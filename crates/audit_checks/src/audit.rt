@@ -19,7 +19,8 @@ use std::random::RandomSource;
 use std::test::Fail;
 use std::thread::{join, map_indices};
 use std::time::Clock;
-use test_parts::{TURNS_OF_RUN, new_folder, socket_station, text, texts};
+use test_parts::{TURNS_OF_RUN, new_folder, socket_station, texts};
+use test_values::text;
 
 /// The words of the agent, and the paths of the doors.
 #[derive(Drop)]

@@ -17,7 +17,8 @@ use std::alloc::Global;
 use std::marker::Brand;
 use std::sync::Wait;
 use std::thread::Threads;
-use test_parts::{ROOT, begin, text, tree};
+use test_parts::{ROOT, begin, tree};
+use test_values::text;
 
 /// What a service leaves.
 #[derive(Drop)]

@@ -1,5 +1,5 @@
 // Each public call once, with ample memory, and the answers of checks by root and by defaults.
-ghost use Rattle.std.specs.Prelude.{◌<◌, IfOk};
+ghost use Rattle.std.specs.Prelude.{◌<◌, ◌≤◌, ◌^◌, IfOk};
 ghost use Rattle.authority_model.specs.Given.{IsStepped};
 
 use crate::calls::{action_id, decide, load, step};
@@ -165,13 +165,21 @@ fn check(alloc: Global, serial: u32, pid: u32, start: u64, id: &str) -> Result<E
     })
 }
 
+/// Whether a load is taken in as the entry at a place.
+fn is_loaded(authority: &mut Authority, moment: u64, loaded: Loaded, place: u64) -> bool
+    requires moment { moment ≤ 2 ^ 62 }
+{
+    load(authority, moment, loaded).ok() == Some(place)
+}
+
 /// An authority with a load at moment 5, which is its first entry.
 fn started(alloc: Global) -> Result<Authority, Fail> {
     let loaded = some_load(alloc)?;
     let mut authority = Authority::start(alloc, LIMITS)?;
-    match load(&mut authority, 5, loaded) {
-        Ok(0) => Ok(authority),
-        _ => Err(NoMemory)?,
+    if is_loaded(&mut authority, 5, loaded, 0) {
+        Ok(authority)
+    } else {
+        Err("the first load is not entry 0")?
     }
 }
 
@@ -254,7 +262,7 @@ fn a_later_load_is_told_and_decides(rt: HostRuntime) -> Result<(), Fail> {
     let alloc = rt.alloc();
     let mut authority = started(alloc)?;
     assert!(rt; is_connected(&mut authority, 1, 1000));
-    assert!(rt; load(&mut authority, 0, Loaded::empty(alloc)).ok() == Some(2));
+    assert!(rt; is_loaded(&mut authority, 0, Loaded::empty(alloc), 2));
     assert!(rt; is_second_load(authority.entry(2)));
     let id = text(alloc, "a.no")?;
     let gone = Subject::Process { pid: 1, start: 1 };

@@ -55,27 +55,17 @@ pub fn decide(authority: &Authority, subject: &Subject, id: &Text) -> Option<Dec
     authority.decide(0, subject, id)
 }
 
-/// Carries a state on by the entry at a place, which has salt 255 and no load.
+/// Carries a state on by an entry without a load.
 pub fn carry(
     state: &mut State,
     in_force: &Loaded,
     place: u64,
-    caller: u32,
-    moment: u64,
-    event: Event,
-    outputs: OutputList,
+    entry: &Entry,
 ) -> Result<(), NoMemory>
     requires entries { IsShort in_force.now.policy.entries }
-    requires moment { moment ≤ 2 ^ 62 }
+    requires moment { entry.now.moment ≤ 2 ^ 62 }
 {
-    let entry = Entry {
-        caller,
-        moment,
-        salt: 255,
-        event,
-        outputs,
-    };
-    state.after(in_force, place, &entry, None)
+    state.after(in_force, place, entry, None)
 }
 
 /// The outputs of an event of a caller at moment 1, with salt 0, over a load.

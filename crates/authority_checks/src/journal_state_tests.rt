@@ -5,7 +5,7 @@ ghost use Rattle.authority_model.specs.Small.{IsShort};
 
 use crate::calls::{action_id, carry};
 use authority_model::{
-    Action, Call, Cookie, Event, Loaded, Message, Output, OutputList, Process, ProcessId,
+    Action, Call, Cookie, Entry, Event, Loaded, Message, Output, OutputList, Process, ProcessId,
 };
 use journal_state::{OutputPlace, State};
 use pk_types::{Identity, Implicit, List, Subject, Text};
@@ -141,10 +141,16 @@ fn step(
     requires entries { IsShort loaded.now.policy.entries }
     requires moment { moment ≤ 2 ^ 62 }
 {
-    let caller = if place == 4 || place == 5 { 2 } else { 1 };
     let outputs = outputs(alloc, place)?;
     let event = event(alloc, place)?;
-    carry(state, loaded, place as u64, caller, moment, event, outputs)?;
+    let entry = Entry {
+        caller: if place == 4 || place == 5 { 2 } else { 1 },
+        moment,
+        salt: 255,
+        event,
+        outputs,
+    };
+    carry(state, loaded, place as u64, &entry)?;
     Ok(())
 }
 
@@ -209,8 +215,14 @@ fn grants_at(alloc: Global, moment: u64) -> Result<usize, Fail>
 fn collect(state: &mut State, loaded: &Loaded, alloc: Global, place: u64) -> Result<(), Fail>
     requires entries { IsShort loaded.now.policy.entries }
 {
-    let event = Event::Collect { of: 1 };
-    carry(state, loaded, place, 9, 10, event, List::new(alloc))?;
+    let entry = Entry {
+        caller: 9,
+        moment: 10,
+        salt: 0,
+        event: Event::Collect { of: 1 },
+        outputs: List::new(alloc),
+    };
+    carry(state, loaded, place, &entry)?;
     Ok(())
 }
 

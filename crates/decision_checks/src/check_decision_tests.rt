@@ -7,7 +7,7 @@ use authority_model::{
     Reason, RuleSource, Session, World,
 };
 use check_decision::{DecisionRef, allowed, decision, no, owns, return_verdict, verdict};
-use pk_types::{ActionId, Category, Identity, Implicit, List, NoMemory, Pair, Text};
+use pk_types::{ActionId, Category, Identity, Implicit, List, Pair, Text};
 use std::alloc::Global;
 use std::test::Fail;
 use test_values::{one, text};
@@ -57,7 +57,7 @@ fn actions(alloc: Global) -> Result<ActionList, Fail>
     if actions.len() == 5 {
         Ok(actions)
     } else {
-        Err(NoMemory)?
+        Err("not five actions")?
     }
 }
 

@@ -6,7 +6,7 @@ use authority_model::{
     Action, Group, GroupList, Loaded, Policy, RuleEntry, RuleList, RuleSource, User, UserList,
     World,
 };
-use pk_types::{ActionId, Category, Implicit, List, NoMemory, Text, TextList};
+use pk_types::{ActionId, Category, Implicit, List, Text, TextList};
 use policy_decide::implicit;
 use std::alloc::Global;
 use std::test::Fail;
@@ -53,7 +53,7 @@ fn rules(alloc: Global) -> Result<RuleList, Fail>
     if rules.len() == 4 {
         Ok(rules)
     } else {
-        Err(NoMemory)?
+        Err("not four rules")?
     }
 }
 

@@ -13,5 +13,5 @@ pub use count::{Count, TURNS_OF_RUN};
 pub use folder::{new_folder, socket_station};
 pub use heard::{HeardLink, HeardSource, HeardStation};
 pub use passes::{begin, new_pass};
-pub use trees::{ROOT, output, text, texts, tree};
+pub use trees::{ROOT, output, texts, tree};
 pub use wire::{ASK, CHECK_YES, RELOAD, SHAKE_ALICE, SHAKE_ROOT};

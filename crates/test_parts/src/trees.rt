@@ -1,7 +1,8 @@
 // The tree of files of a service and of an agent, words, and outputs.
 use pk_outside::{ByteSink, ListTree, TreeDirectory, TreeFile};
-use pk_types::{ByteList, List, NoMemory, Text, TextList};
+use pk_types::{ByteList, List, NoMemory, TextList};
 use std::alloc::Global;
+use test_values::text;
 
 /// The room of an output.
 const ROOM: usize = 4096;
@@ -25,11 +26,6 @@ const FILES: &[(&str, &str)] = &[
     ("/r/tables/processes", "50 7 1000 s1\n51 8 1000 -\n"),
     ("/rules", "a.* user:1000\n"),
 ];
-
-/// A text, which is refused where it is not one.
-pub fn text(alloc: Global, text: &str) -> Result<Text, NoMemory> {
-    Text::try_from_bytes(alloc, text.as_bytes()).map_err(|_| NoMemory)
-}
 
 /// Words as texts.
 pub fn texts(alloc: Global, words: &[&str]) -> Result<TextList, NoMemory> {
