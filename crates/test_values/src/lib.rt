@@ -2,7 +2,7 @@
 //! that when it runs, and has no use for a proof of it.
 #![tactic(auto)]
 
-use pk_types::{List, NoMemory, Text};
+use pk_types::{ActionId, List, NoMemory, Text};
 use std::alloc::Global;
 
 /// The text of these characters, and `NoMemory` also where they are no text.
@@ -13,6 +13,11 @@ pub fn text(alloc: Global, characters: &str) -> Result<Text, NoMemory> {
 /// The text of these bytes, and `NoMemory` also where they are no text.
 pub fn text_of_bytes(alloc: Global, bytes: &[u8]) -> Result<Text, NoMemory> {
     Text::try_from_bytes(alloc, bytes).map_err(|_| NoMemory)
+}
+
+/// The id of an action of these characters, and `NoMemory` also where they are none.
+pub fn action_id(alloc: Global, characters: &str) -> Result<ActionId, NoMemory> {
+    ActionId::read(&text(alloc, characters)?).map_err(|_| NoMemory)
 }
 
 /// A list of one item.
