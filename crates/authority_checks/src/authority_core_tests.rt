@@ -2,7 +2,7 @@
 ghost use Rattle.std.specs.Prelude.{◌<◌, ◌≤◌, ◌^◌, IfOk};
 ghost use Rattle.authority_model.specs.Given.{IsStepped};
 
-use crate::calls::{action_id, decide, load, step};
+use crate::calls::{decide, load, step};
 use authority_core::{Authority, Limits};
 use authority_model::{
     Action, ActionList, Answer, Call, Decision, Entry, ErrorCause, Event, Loaded, Message, Process,
@@ -11,7 +11,7 @@ use authority_model::{
 use pk_types::{Category, Implicit, List, NoMemory, Subject, Text};
 use std::alloc::Global;
 use std::test::Fail;
-use test_values::text;
+use test_values::{action_id, text};
 
 const LIMITS: Limits = Limits {
     entries: 1_048_576,
@@ -99,8 +99,8 @@ const DECISIONS: [Case; 6] = [
     (51, 9, "a.yes", None),
 ];
 
-fn action(alloc: Global, id: &str, any: Implicit) -> Result<Action, Fail> {
-    let id = action_id(&text(alloc, id)?)?;
+fn action(alloc: Global, id: &str, any: Implicit) -> Result<Action, NoMemory> {
+    let id = action_id(alloc, id)?;
     Ok(Action::plain(alloc, id, any, any, any))
 }
 
@@ -120,7 +120,7 @@ const ACTIONS: [(&str, Implicit); 3] = [
     ("a.admin", Implicit::AuthAdmin),
 ];
 
-fn some_actions(alloc: Global) -> Result<ActionList, Fail> {
+fn some_actions(alloc: Global) -> Result<ActionList, NoMemory> {
     let mut actions = List::new(alloc);
     for (id, value) in ACTIONS {
         actions.try_push(action(alloc, id, value)?)?;
@@ -139,7 +139,7 @@ fn some_processes(alloc: Global) -> Result<ProcessList, NoMemory> {
     Ok(processes)
 }
 
-fn some_load(alloc: Global) -> Result<Loaded, Fail> {
+fn some_load(alloc: Global) -> Result<Loaded, NoMemory> {
     let actions = some_actions(alloc)?;
     let processes = some_processes(alloc)?;
     let mut loaded = Loaded::empty(alloc);
@@ -148,7 +148,7 @@ fn some_load(alloc: Global) -> Result<Loaded, Fail> {
     Ok(loaded)
 }
 
-fn check(alloc: Global, serial: u32, pid: u32, start: u64, id: &str) -> Result<Event, Fail>
+fn check(alloc: Global, serial: u32, pid: u32, start: u64, id: &str) -> Result<Event, NoMemory>
     ensures stepped { IfOk result IsStepped }
 {
     let action = text(alloc, id)?;
@@ -172,15 +172,10 @@ fn is_loaded(authority: &mut Authority, moment: u64, loaded: Loaded, place: u64)
     load(authority, moment, loaded).ok() == Some(place)
 }
 
-/// An authority with a load at moment 5, which is its first entry.
-fn started(alloc: Global) -> Result<Authority, Fail> {
+/// Whether the first entry is a load, at moment 5.
+fn is_started(authority: &mut Authority, alloc: Global) -> Result<bool, NoMemory> {
     let loaded = some_load(alloc)?;
-    let mut authority = Authority::start(alloc, LIMITS)?;
-    if is_loaded(&mut authority, 5, loaded, 0) {
-        Ok(authority)
-    } else {
-        Err("the first load is not entry 0")?
-    }
+    Ok(is_loaded(authority, 5, loaded, 0))
 }
 
 /// The answer to an event, whose entry is the last one and has moment 5.
@@ -196,7 +191,7 @@ fn answered(authority: &mut Authority, caller: u32, event: Event) -> Option<Told
 }
 
 /// Whether a check is told what its row says.
-fn is_told(authority: &mut Authority, alloc: Global, row: &Row) -> Result<bool, Fail> {
+fn is_told(authority: &mut Authority, alloc: Global, row: &Row) -> Result<bool, NoMemory> {
     let (caller, serial, pid, start, id, want) = *row;
     let event = check(alloc, serial, pid, start, id)?;
     Ok(answered(authority, caller, event) == Some(want))
@@ -224,22 +219,46 @@ fn row_at(place: usize) -> Row
     ROWS[place]
 }
 
-#[test]
-fn checks_by_root_and_by_defaults(rt: HostRuntime) -> Result<(), Fail> {
-    let alloc = rt.alloc();
-    let mut authority = started(alloc)?;
-    assert!(rt; is_connected(&mut authority, 1, 1000));
-    assert!(rt; is_connected(&mut authority, 2, 0));
+/// The serial and the action of the first check that is not told what its row says.
+fn first_untold(
+    authority: &mut Authority,
+    alloc: Global,
+) -> Result<Option<(u32, &'static str)>, NoMemory> {
     for place in 0..10 {
         let row = row_at(place);
-        assert!(rt; is_told(&mut authority, alloc, &row)?, "{}", row.4);
+        if !is_told(authority, alloc, &row)? {
+            return Ok(Some((row.1, row.4)));
+        }
     }
-    assert!(rt; is_quiet(&mut authority));
+    Ok(None)
+}
+
+/// Whether the authority starts, and two connections and a quiet call are told nothing; and which
+/// check is told wrongly before that call.
+type AllTold = ([bool; 4], Option<(u32, &'static str)>);
+
+fn all_told(authority: &mut Authority, alloc: Global) -> Result<AllTold, NoMemory> {
+    let started = is_started(authority, alloc)?;
+    let first = is_connected(authority, 1, 1000);
+    let second = is_connected(authority, 2, 0);
+    let untold = first_untold(authority, alloc)?;
+    Ok(([started, first, second, is_quiet(authority)], untold))
+}
+
+/// The same of a new authority.
+fn told_from_start(alloc: Global) -> Result<AllTold, NoMemory> {
+    let mut authority = Authority::start(alloc, LIMITS)?;
+    all_told(&mut authority, alloc)
+}
+
+#[test]
+fn checks_by_root_and_by_defaults(rt: HostRuntime) -> Result<(), Fail> {
+    assert_eq!(rt; told_from_start(rt.alloc())?, ([true; 4], None));
     Ok(())
 }
 
 /// Whether a decision is what its row says.
-fn is_decided(authority: &Authority, alloc: Global, row: &Case) -> Result<bool, Fail> {
+fn is_decided(authority: &Authority, alloc: Global, row: &Case) -> Result<bool, NoMemory> {
     let (pid, start, id, want) = *row;
     let id = text(alloc, id)?;
     Ok(decide(authority, &Subject::Process { pid, start }, &id) == want)
@@ -257,16 +276,35 @@ fn is_second_load(entry: Option<&Entry>) -> bool {
     }
 }
 
-#[test]
-fn a_later_load_is_told_and_decides(rt: HostRuntime) -> Result<(), Fail> {
-    let alloc = rt.alloc();
-    let mut authority = started(alloc)?;
-    assert!(rt; is_connected(&mut authority, 1, 1000));
-    assert!(rt; is_loaded(&mut authority, 0, Loaded::empty(alloc), 2));
-    assert!(rt; is_second_load(authority.entry(2)));
+/// Whether a process that the second load does not list is decided.
+fn gone_is_decided(authority: &Authority, alloc: Global) -> Result<bool, NoMemory> {
     let id = text(alloc, "a.no")?;
     let gone = Subject::Process { pid: 1, start: 1 };
-    assert!(rt; decide(&authority, &gone, &id).is_none());
+    Ok(decide(authority, &gone, &id).is_some())
+}
+
+/// Whether the authority starts, connection 1 is entered, a second load is taken in and told, and a
+/// process that it does not list is decided.
+fn reloaded(authority: &mut Authority, alloc: Global) -> Result<[bool; 5], NoMemory> {
+    Ok([
+        is_started(authority, alloc)?,
+        is_connected(authority, 1, 1000),
+        is_loaded(authority, 0, Loaded::empty(alloc), 2),
+        is_second_load(authority.entry(2)),
+        gone_is_decided(authority, alloc)?,
+    ])
+}
+
+/// The same of a new authority.
+fn reloaded_from_start(alloc: Global) -> Result<[bool; 5], NoMemory> {
+    let mut authority = Authority::start(alloc, LIMITS)?;
+    reloaded(&mut authority, alloc)
+}
+
+#[test]
+fn a_later_load_is_told_and_decides(rt: HostRuntime) -> Result<(), Fail> {
+    let wanted = [true, true, true, true, false];
+    assert_eq!(rt; reloaded_from_start(rt.alloc())?, wanted);
     Ok(())
 }
 
@@ -277,12 +315,37 @@ fn case_at(place: usize) -> Case
     DECISIONS[place]
 }
 
-#[test]
-fn decisions_are_told(rt: HostRuntime) -> Result<(), Fail> {
-    let authority = started(rt.alloc())?;
+/// The first case that is not decided as its row says.
+fn first_undecided(
+    authority: &Authority,
+    alloc: Global,
+) -> Result<Option<(u32, &'static str)>, NoMemory> {
     for place in 0..6 {
         let case = case_at(place);
-        assert!(rt; is_decided(&authority, rt.alloc(), &case)?, "{}", case.2);
+        if !is_decided(authority, alloc, &case)? {
+            return Ok(Some((case.0, case.2)));
+        }
     }
+    Ok(None)
+}
+
+/// Whether the authority starts, and the first case that is decided wrongly.
+fn decided(
+    authority: &mut Authority,
+    alloc: Global,
+) -> Result<(bool, Option<(u32, &'static str)>), NoMemory> {
+    let started = is_started(authority, alloc)?;
+    Ok((started, first_undecided(authority, alloc)?))
+}
+
+/// The same of a new authority.
+fn decided_from_start(alloc: Global) -> Result<(bool, Option<(u32, &'static str)>), NoMemory> {
+    let mut authority = Authority::start(alloc, LIMITS)?;
+    decided(&mut authority, alloc)
+}
+
+#[test]
+fn decisions_are_told(rt: HostRuntime) -> Result<(), Fail> {
+    assert_eq!(rt; decided_from_start(rt.alloc())?, (true, None));
     Ok(())
 }

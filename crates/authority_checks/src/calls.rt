@@ -8,9 +8,8 @@ use authority_core::{Authority, Batch, CollectStepRefused, LoadStepRefused, Step
 use authority_model::{Decision, Entry, Event, Loaded, OutputList};
 use journal_answers::outputs;
 use journal_state::State;
-use pk_types::{ActionId, NoMemory, Subject, Text};
+use pk_types::{NoMemory, Subject, Text};
 use std::alloc::Global;
-use std::test::Fail;
 
 /// Hands an event in, with salt 0, and gives what it is answered.
 pub fn step(
@@ -79,9 +78,4 @@ pub fn answers(
     requires entries { IsShort in_force.now.policy.entries }
 {
     outputs(alloc, state, in_force, 0, caller, 1, 0, event)
-}
-
-/// The id of an action that a text spells.
-pub fn action_id(text: &Text) -> Result<ActionId, Fail> {
-    Ok(ActionId::read(text)?)
 }

@@ -63,7 +63,7 @@ enum Turn {
 fn steps(authority: &mut Authority, event: Event) -> bool
     requires stepped { IsStepped event }
 {
-    step(authority, 1, 0, event).is_ok()
+    step(authority, 1, 0, event).ok().is_some()
 }
 
 fn call(call: Call) -> Event
@@ -107,7 +107,7 @@ fn happens(authority: &mut Authority, alloc: Global, turn: Turn) -> bool {
             }),
         ),
         Turn::Depart => steps(authority, Event::Depart),
-        Turn::Reload => load(authority, 0, Loaded::empty(alloc)).is_ok(),
+        Turn::Reload => load(authority, 0, Loaded::empty(alloc)).ok().is_some(),
         Turn::Waits(caller) => !ready(authority, caller, 1),
         Turn::Collects(caller, from, loads, told) => {
             collects(authority, caller, from, loads, told)
@@ -115,24 +115,26 @@ fn happens(authority: &mut Authority, alloc: Global, turn: Turn) -> bool {
     }
 }
 
-/// An authority with an empty load and connection 1, after these turns.
-fn after(alloc: Global, entries: u64, turns: &[Turn]) -> Result<Authority, Fail> {
+/// Whether an empty load, connection 1 and these turns happen, one after the other.
+fn all_happen(authority: &mut Authority, alloc: Global, turns: &[Turn]) -> bool {
+    if !happens(authority, alloc, Turn::Reload) || !steps(authority, Event::Connect { uid: 1000 }) {
+        return false;
+    }
+    for turn in turns {
+        if !happens(authority, alloc, *turn) {
+            return false;
+        }
+    }
+    true
+}
+
+/// A new authority with room for so many entries.
+fn with_room(alloc: Global, entries: u64) -> Result<Authority, NoMemory> {
     let limits = Limits {
         entries: entries.min(MAX_ENTRIES),
         bytes: MAX_BYTES,
     };
-    let mut authority = Authority::start(alloc, limits)?;
-    if !happens(&mut authority, alloc, Turn::Reload)
-        || !steps(&mut authority, Event::Connect { uid: 1000 })
-    {
-        Err(NoMemory)?
-    }
-    for turn in turns {
-        if !happens(&mut authority, alloc, *turn) {
-            Err(NoMemory)?
-        }
-    }
-    Ok(authority)
+    Authority::start(alloc, limits)
 }
 
 const REFUSED: Option<Told> = Some(Told::Refused(ErrorCause::BadAnnounce));
@@ -147,10 +149,21 @@ const DEPARTED: [Turn; 7] = [
     Turn::Collects(3, 1, 0, [REFUSED, None]),
 ];
 
+/// Whether the turns of a departure happen, and how many entries there are then.
+fn departure(authority: &mut Authority, alloc: Global) -> (bool, usize) {
+    let happened = all_happen(authority, alloc, &DEPARTED);
+    (happened, authority.history().entries.len())
+}
+
+/// The same of a new authority.
+fn departure_from_start(alloc: Global) -> Result<(bool, usize), NoMemory> {
+    let mut authority = with_room(alloc, MAX_ENTRIES)?;
+    Ok(departure(&mut authority, alloc))
+}
+
 #[test]
 fn a_departed_connection_is_collected_to_its_end(rt: HostRuntime) -> Result<(), Fail> {
-    let authority = after(rt.alloc(), MAX_ENTRIES, &DEPARTED)?;
-    assert!(rt; authority.history().entries.len() == 7);
+    assert_eq!(rt; departure_from_start(rt.alloc())?, (true, 7));
     Ok(())
 }
 
@@ -170,33 +183,68 @@ const NUMBERED: [(u32, Option<Told>); 4] = [
     (4, None),
 ];
 
-#[test]
-fn a_batch_has_the_loads_that_it_names(rt: HostRuntime) -> Result<(), Fail> {
-    let authority = after(rt.alloc(), MAX_ENTRIES, &LOADS)?;
-    assert!(rt; authority.sent_count(1) == 3);
+/// The first number of which another output to connection 1 is told than its row says.
+fn first_untold(authority: &Authority) -> Option<u32> {
     for (number, want) in NUMBERED {
         let told = match authority.output_to(1, number) {
             Some(output) => Some(told_by(output)),
             None => None,
         };
-        assert!(rt; told == want, "{number}");
+        if told != want {
+            return Some(number);
+        }
     }
-    Ok(())
+    None
+}
+
+/// Whether the loads happen, how many outputs to connection 1 there are then, and which is told
+/// wrongly.
+fn loading(authority: &mut Authority, alloc: Global) -> (bool, u32, Option<u32>) {
+    let happened = all_happen(authority, alloc, &LOADS);
+    (happened, authority.sent_count(1), first_untold(authority))
+}
+
+/// The same of a new authority.
+fn loading_from_start(alloc: Global) -> Result<(bool, u32, Option<u32>), NoMemory> {
+    let mut authority = with_room(alloc, MAX_ENTRIES)?;
+    Ok(loading(&mut authority, alloc))
 }
 
 #[test]
-fn a_full_journal_refuses_a_collect(rt: HostRuntime) -> Result<(), Fail> {
-    let mut authority = after(rt.alloc(), 3, &[Turn::Announce])?;
+fn a_batch_has_the_loads_that_it_names(rt: HostRuntime) -> Result<(), Fail> {
+    assert_eq!(rt; loading_from_start(rt.alloc())?, (true, 3, None));
+    Ok(())
+}
+
+/// Whether a Collect is refused since the journal is full with three entries.
+fn is_refused_by_three(authority: &mut Authority) -> bool {
     let full = CollectStepRefused::JournalFull {
         entries: 3,
         bytes: 256,
     };
-    assert!(rt;
-        match collect(&mut authority, 2, 1) {
-            Some(Err(refused)) => refused == full,
-            _ => false,
-        }
-    );
-    assert!(rt; ready(&authority, 2, 1));
+    match collect(authority, 2, 1) {
+        Some(Err(refused)) => refused == full,
+        _ => false,
+    }
+}
+
+/// Whether three entries are made, a Collect is refused then, and caller 2 may still collect.
+fn filling(authority: &mut Authority, alloc: Global) -> [bool; 3] {
+    [
+        all_happen(authority, alloc, &[Turn::Announce]),
+        is_refused_by_three(authority),
+        ready(authority, 2, 1),
+    ]
+}
+
+/// The same of a new authority with room for three entries.
+fn filling_from_start(alloc: Global) -> Result<[bool; 3], NoMemory> {
+    let mut authority = with_room(alloc, 3)?;
+    Ok(filling(&mut authority, alloc))
+}
+
+#[test]
+fn a_full_journal_refuses_a_collect(rt: HostRuntime) -> Result<(), Fail> {
+    assert_eq!(rt; filling_from_start(rt.alloc())?, [true; 3]);
     Ok(())
 }

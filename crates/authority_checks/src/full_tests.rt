@@ -2,6 +2,8 @@
 use crate::calls::{load, step};
 use authority_core::{Authority, Limits, LoadStepRefused, StepRefused};
 use authority_model::{Event, Loaded, MAX_BYTES, MAX_ENTRIES};
+use pk_types::NoMemory;
+use std::alloc::Global;
 use std::test::Fail;
 
 /// The limits of entries and of bytes; how many connections are entered; and the entries and the
@@ -20,75 +22,116 @@ const ROWS: [Row; 8] = [
     (3, 128, 2, 2, 128),
 ];
 
-/// Whether a connection of this uid is refused with these numbers, and comes back.
-fn is_refused(authority: &mut Authority, uid: u32, entries: u64, bytes: u64) -> bool {
-    match step(authority, 1, 0, Event::Connect { uid }) {
+/// Whether an event is refused with these numbers, and is the Connect of this uid.
+fn refuses(stepped: &Result<u64, StepRefused>, uid: u32, entries: u64, bytes: u64) -> bool {
+    match stepped {
         Err(
             StepRefused::JournalFull {
                 entries: n,
                 bytes: b,
                 event: Event::Connect { uid: back },
             },
-        ) => n == entries && b == bytes && back == uid,
+        ) => *n == entries && *b == bytes && *back == uid,
         _ => false,
     }
+}
+
+/// Whether a connection of this uid is refused with these numbers, and comes back.
+fn is_refused(authority: &mut Authority, uid: u32, entries: u64, bytes: u64) -> bool {
+    let stepped = step(authority, 1, 0, Event::Connect { uid });
+    refuses(&stepped, uid, entries, bytes)
 }
 
 /// Whether this many connections are entered.
 fn all_connect(authority: &mut Authority, count: u32) -> bool {
     for caller in 0..count {
-        if step(authority, caller + 1, 0, Event::Connect { uid: 1000 }).is_err() {
+        if step(authority, caller + 1, 0, Event::Connect { uid: 1000 })
+            .ok()
+            .is_none()
+        {
             return false;
         }
     }
     true
 }
 
+/// Whether this many connections are entered, the next one is refused with these numbers, and the
+/// journal has this many entries.
+fn fills(authority: &mut Authority, row: &Row) -> [bool; 3] {
+    let (_, _, count, entries, bytes) = *row;
+    [
+        all_connect(authority, count),
+        is_refused(authority, 7, entries, bytes),
+        authority.history().entries.len() as u64 == entries,
+    ]
+}
+
+/// The same of an authority that starts with the limits of the row.
+fn fills_from_start(alloc: Global, row: &Row) -> Result<[bool; 3], NoMemory> {
+    let limits = Limits {
+        entries: row.0.min(MAX_ENTRIES),
+        bytes: row.1.min(MAX_BYTES),
+    };
+    let mut authority = Authority::start(alloc, limits)?;
+    Ok(fills(&mut authority, row))
+}
+
 #[test]
 fn a_full_journal_refuses_an_event(rt: HostRuntime) -> Result<(), Fail> {
-    for (entries, bytes, count, entries_then, bytes_then) in ROWS {
-        let limits = Limits {
-            entries: entries.min(MAX_ENTRIES),
-            bytes: bytes.min(MAX_BYTES),
-        };
-        let mut authority = Authority::start(rt.alloc(), limits)?;
-        assert!(rt; all_connect(&mut authority, count), "{entries} {bytes}");
-        assert!(rt;
-            is_refused(&mut authority, 7, entries_then, bytes_then),
-            "{entries} {bytes}"
+    for row in ROWS {
+        assert_eq!(rt;
+            fills_from_start(rt.alloc(), &row)?,
+            [true; 3],
+            "{} {}",
+            row.0,
+            row.1
         );
-        assert!(rt; authority.history().entries.len() as u64 == entries_then);
     }
     Ok(())
 }
 
-/// Whether a load is refused with these numbers.
-fn is_load_refused(authority: &mut Authority, loaded: Loaded, entries: u64, bytes: u64) -> bool {
-    match load(authority, 0, loaded) {
+/// Whether a load was refused with these numbers.
+fn refuses_load(stepped: &Result<u64, LoadStepRefused>, entries: u64, bytes: u64) -> bool {
+    match stepped {
         Err(
             LoadStepRefused::JournalFull {
                 entries: n,
                 bytes: b,
                 ..
             },
-        ) => n == entries && b == bytes,
+        ) => *n == entries && *b == bytes,
         _ => false,
     }
 }
 
+/// Whether a load is refused with these numbers.
+fn is_load_refused(authority: &mut Authority, loaded: Loaded, entries: u64, bytes: u64) -> bool {
+    let stepped = load(authority, 0, loaded);
+    refuses_load(&stepped, entries, bytes)
+}
+
+/// Whether a load and a connection are entered, a second load is refused, and one load is kept.
+fn fills_with_a_load(authority: &mut Authority, alloc: Global) -> [bool; 4] {
+    [
+        load(authority, 0, Loaded::empty(alloc)).ok().is_some(),
+        all_connect(authority, 1),
+        is_load_refused(authority, Loaded::empty(alloc), 2, 128),
+        authority.history().loads.len() == 1,
+    ]
+}
+
+/// The same of an authority that starts with room for two entries.
+fn fills_two_with_a_load(alloc: Global) -> Result<[bool; 4], NoMemory> {
+    let limits = Limits {
+        entries: 2,
+        bytes: MAX_BYTES,
+    };
+    let mut authority = Authority::start(alloc, limits)?;
+    Ok(fills_with_a_load(&mut authority, alloc))
+}
+
 #[test]
 fn a_full_journal_refuses_a_load(rt: HostRuntime) -> Result<(), Fail> {
-    let alloc = rt.alloc();
-    let mut authority = Authority::start(
-        alloc,
-        Limits {
-            entries: 2,
-            bytes: MAX_BYTES,
-        },
-    )?;
-    assert!(rt; load(&mut authority, 0, Loaded::empty(alloc)).is_ok());
-    assert!(rt; step(&mut authority, 1, 0, Event::Connect { uid: 1000 }).is_ok());
-    assert!(rt; is_load_refused(&mut authority, Loaded::empty(alloc), 2, 128));
-    assert!(rt; authority.history().loads.len() == 1);
+    assert_eq!(rt; fills_two_with_a_load(rt.alloc())?, [true; 4]);
     Ok(())
 }

@@ -3,19 +3,19 @@
 ghost use Rattle.std.specs.Prelude.{◌≤◌, ◌^◌, IfOk};
 ghost use Rattle.authority_model.specs.Small.{IsShort};
 
-use crate::calls::{action_id, carry};
+use crate::calls::carry;
 use authority_model::{
     Action, Call, Cookie, Entry, Event, Loaded, Message, Output, OutputList, Process, ProcessId,
 };
 use journal_state::{OutputPlace, State};
-use pk_types::{Identity, Implicit, List, Subject, Text};
+use pk_types::{Identity, Implicit, List, NoMemory, Subject, Text};
 use std::alloc::Global;
 use std::test::Fail;
-use test_values::{one, text};
+use test_values::{action_id, one, text};
 
 /// An action for which a user has to authenticate.
-fn keep(alloc: Global) -> Result<Action, Fail> {
-    let id = action_id(&text(alloc, "a.keep")?)?;
+fn keep(alloc: Global) -> Result<Action, NoMemory> {
+    let id = action_id(alloc, "a.keep")?;
     Ok(Action::plain(
         alloc,
         id,
@@ -26,7 +26,7 @@ fn keep(alloc: Global) -> Result<Action, Fail> {
 }
 
 /// A process of uid 1000, and that action.
-fn load(alloc: Global) -> Result<Loaded, Fail>
+fn load(alloc: Global) -> Result<Loaded, NoMemory>
     ensures entries { IfOk result (λ l. IsShort l.policy.entries) }
 {
     let process = Process {
@@ -44,10 +44,13 @@ fn load(alloc: Global) -> Result<Loaded, Fail>
 }
 
 /// What the agent of connection 1 is asked.
-fn question(alloc: Global) -> Result<Message, Fail> {
+fn question(alloc: Global) -> Result<Message, NoMemory> {
+    let path = text(alloc, "/agent")?;
+    let action = text(alloc, "a.keep")?;
+    let identities = one(alloc, Identity::User(1000))?;
     Ok(Message::Begin {
-        path: text(alloc, "/agent")?,
-        action: text(alloc, "a.keep")?,
+        path,
+        action,
         text: Text::new(alloc),
         icon: Text::new(alloc),
         details: List::new(alloc),
@@ -55,14 +58,14 @@ fn question(alloc: Global) -> Result<Message, Fail> {
             serial: 1,
             salt: 255,
         },
-        identities: one(alloc, Identity::User(1000))?,
+        identities,
     })
 }
 
 /// The outputs of the check.
-fn begin(alloc: Global) -> Result<OutputList, Fail> {
+fn begin(alloc: Global) -> Result<OutputList, NoMemory> {
     let message = question(alloc)?;
-    Ok(one(alloc, Output { to: 1, message })?)
+    one(alloc, Output { to: 1, message })
 }
 
 fn call(call: Call) -> Event {
@@ -74,40 +77,42 @@ fn call(call: Call) -> Event {
 }
 
 /// Connection 1 registers an agent for itself.
-fn register(alloc: Global) -> Result<Event, Fail> {
+fn register(alloc: Global) -> Result<Event, NoMemory> {
+    let name = text(alloc, ":1.1")?;
+    let path = text(alloc, "/agent")?;
     Ok(call(Call::Register {
-        subject: Subject::BusName {
-            name: text(alloc, ":1.1")?,
-        },
+        subject: Subject::BusName { name },
         locale: Text::new(alloc),
-        path: text(alloc, "/agent")?,
+        path,
     }))
 }
 
-fn check(alloc: Global) -> Result<Event, Fail> {
+fn check(alloc: Global) -> Result<Event, NoMemory> {
+    let action = text(alloc, "a.keep")?;
     Ok(call(Call::Check {
         subject: Subject::Process { pid: 50, start: 7 },
-        action: text(alloc, "a.keep")?,
+        action,
         details: List::new(alloc),
         flags: 1,
         cancel: Text::new(alloc),
     }))
 }
 
-fn respond(alloc: Global) -> Result<Event, Fail> {
+fn respond(alloc: Global) -> Result<Event, NoMemory> {
+    let cookie = text(alloc, "1-000000000000000000000000000000ff")?;
     Ok(call(Call::Respond {
-        cookie: text(alloc, "1-000000000000000000000000000000ff")?,
+        cookie,
         identity: Identity::User(1000),
     }))
 }
 
-fn revoke(alloc: Global) -> Result<Event, Fail> {
+fn revoke(alloc: Global) -> Result<Event, NoMemory> {
     let id = text(alloc, "tmpauthz0")?;
     Ok(call(Call::RevokeOne { id }))
 }
 
 /// The event at a place of the journal.
-fn event(alloc: Global, place: usize) -> Result<Event, Fail> {
+fn event(alloc: Global, place: usize) -> Result<Event, NoMemory> {
     match place {
         0 => Ok(Event::Connect { uid: 1000 }),
         1 => Ok(call(Call::Announce { pid: 50, start: 7 })),
@@ -122,7 +127,7 @@ fn event(alloc: Global, place: usize) -> Result<Event, Fail> {
 }
 
 /// The outputs of the event at a place.
-fn outputs(alloc: Global, place: usize) -> Result<OutputList, Fail> {
+fn outputs(alloc: Global, place: usize) -> Result<OutputList, NoMemory> {
     if place == 3 {
         begin(alloc)
     } else {
@@ -137,7 +142,7 @@ fn step(
     loaded: &Loaded,
     place: usize,
     moment: u64,
-) -> Result<(), Fail>
+) -> Result<(), NoMemory>
     requires entries { IsShort loaded.now.policy.entries }
     requires moment { moment ≤ 2 ^ 62 }
 {
@@ -150,14 +155,16 @@ fn step(
         event,
         outputs,
     };
-    carry(state, loaded, place as u64, &entry)?;
-    Ok(())
+    carry(state, loaded, place as u64, &entry)
 }
+
+/// What is seen of a state.
+type Seen = (bool, [u64; 7]);
 
 /// Whether the process of connection 1 is known, and how many live connections, registrations,
 /// pending challenges, challenges opened, temporary authorizations, those ever made, and outputs to
 /// connection 1 there are.
-fn seen(alloc: Global, state: &State) -> Result<(bool, [u64; 7]), Fail> {
+fn seen(alloc: Global, state: &State) -> Result<Seen, NoMemory> {
     Ok((
         state.connections.announced(1) == Some(ProcessId { pid: 50, start: 7 }),
         [
@@ -173,7 +180,7 @@ fn seen(alloc: Global, state: &State) -> Result<(bool, [u64; 7]), Fail> {
 }
 
 /// What is seen after the event at each place.
-const ROWS: [(bool, [u64; 7]); 9] = [
+const ROWS: [Seen; 9] = [
     (false, [1, 0, 0, 0, 0, 0, 0]),
     (true, [1, 0, 0, 0, 0, 0, 0]),
     (true, [1, 1, 0, 0, 0, 0, 0]),
@@ -185,34 +192,86 @@ const ROWS: [(bool, [u64; 7]); 9] = [
     (false, [1, 0, 0, 1, 0, 1, 1]),
 ];
 
-#[test]
-fn answered_check_makes_a_grant(rt: HostRuntime) -> Result<(), Fail> {
-    let alloc = rt.alloc();
+/// Carries a state on by the event at a place, and tells whether the row is seen.
+fn is_seen(
+    alloc: Global,
+    state: &mut State,
+    loaded: &Loaded,
+    place: usize,
+    row: &Seen,
+) -> Result<bool, NoMemory>
+    requires entries { IsShort loaded.now.policy.entries }
+{
+    step(alloc, state, loaded, place, 10)?;
+    Ok(seen(alloc, state)? == *row)
+}
+
+/// The first place after whose event another thing is seen than its row says.
+fn first_unseen(
+    alloc: Global,
+    state: &mut State,
+    loaded: &Loaded,
+) -> Result<Option<usize>, NoMemory>
+    requires entries { IsShort loaded.now.policy.entries }
+{
+    for (place, row) in ROWS.iter().enumerate() {
+        if !is_seen(alloc, state, loaded, place, row)? {
+            return Ok(Some(place));
+        }
+    }
+    Ok(None)
+}
+
+/// The same from the start.
+fn unseen_from_start(alloc: Global) -> Result<Option<usize>, NoMemory> {
     let loaded = load(alloc)?;
     let mut state = State::start(alloc);
-    for (place, row) in ROWS.iter().enumerate() {
-        step(alloc, &mut state, &loaded, place, 10)?;
-        assert_eq!(rt; seen(alloc, &state)?, *row);
+    first_unseen(alloc, &mut state, &loaded)
+}
+
+#[test]
+fn answered_check_makes_a_grant(rt: HostRuntime) -> Result<(), Fail> {
+    assert_eq!(rt; unseen_from_start(rt.alloc())?, None);
+    Ok(())
+}
+
+/// Carries a state on by the first events.
+fn steps(alloc: Global, state: &mut State, loaded: &Loaded, count: usize) -> Result<(), NoMemory>
+    requires entries { IsShort loaded.now.policy.entries }
+{
+    for place in 0..count {
+        step(alloc, state, loaded, place, 10)?;
     }
     Ok(())
 }
 
 /// How many temporary authorizations there are after an eighth event at this moment, where one was
 /// made at second 10.
-fn grants_at(alloc: Global, moment: u64) -> Result<usize, Fail>
+fn grants_after(
+    alloc: Global,
+    state: &mut State,
+    loaded: &Loaded,
+    moment: u64,
+) -> Result<usize, NoMemory>
+    requires entries { IsShort loaded.now.policy.entries }
+    requires moment { moment ≤ 2 ^ 62 }
+{
+    steps(alloc, state, loaded, 7)?;
+    step(alloc, state, loaded, 8, moment)?;
+    Ok(state.grants.as_slice().len())
+}
+
+/// The same from the start.
+fn grants_at(alloc: Global, moment: u64) -> Result<usize, NoMemory>
     requires { moment ≤ 2 ^ 62 }
 {
     let loaded = load(alloc)?;
     let mut state = State::start(alloc);
-    for place in 0..7 {
-        step(alloc, &mut state, &loaded, place, 10)?;
-    }
-    step(alloc, &mut state, &loaded, 8, moment)?;
-    Ok(state.grants.as_slice().len())
+    grants_after(alloc, &mut state, &loaded, moment)
 }
 
-/// Carries a state on by a Collect at a place: 9 takes the outputs to connection 1.
-fn collect(state: &mut State, loaded: &Loaded, alloc: Global, place: u64) -> Result<(), Fail>
+/// Carries a state on by a Collect at entry 4: caller 9 takes the outputs to connection 1.
+fn collect(alloc: Global, state: &mut State, loaded: &Loaded) -> Result<(), NoMemory>
     requires entries { IsShort loaded.now.policy.entries }
 {
     let entry = Entry {
@@ -222,8 +281,7 @@ fn collect(state: &mut State, loaded: &Loaded, alloc: Global, place: u64) -> Res
         event: Event::Collect { of: 1 },
         outputs: List::new(alloc),
     };
-    carry(state, loaded, place, &entry)?;
-    Ok(())
+    carry(state, loaded, 4, &entry)
 }
 
 /// Where an output to a connection stands.
@@ -236,24 +294,50 @@ fn collected(state: &State, caller: u32, of: u32) -> u64 {
     state.collections.count(caller, of)
 }
 
-#[test]
-fn outputs_are_located_and_collected(rt: HostRuntime) -> Result<(), Fail> {
-    let alloc = rt.alloc();
-    let loaded = load(alloc)?;
-    let mut state = State::start(alloc);
-    for place in 0..4 {
-        step(alloc, &mut state, &loaded, place, 10)?;
-    }
+/// Whether one output is sent, to connection 1, and stands in entry 3.
+fn is_located(state: &State) -> bool {
     let begin = OutputPlace {
         entry: 3,
         output: 0,
     };
-    assert!(rt; sent(&state, 1, 0) == Some(begin));
-    assert!(rt; sent(&state, 1, 1).is_none() && sent(&state, 2, 0).is_none());
-    assert!(rt; collected(&state, 9, 1) == 0);
-    collect(&mut state, &loaded, alloc, 4)?;
-    assert!(rt; collected(&state, 9, 1) == 1 && collected(&state, 8, 1) == 0);
-    assert!(rt; collected(&state, 9, 2) == 0);
+    sent(state, 1, 0) == Some(begin) && sent(state, 1, 1).is_none() && sent(state, 2, 0).is_none()
+}
+
+/// How many outputs callers 8 and 9 have collected to connection 1, and caller 9 to connection 2.
+fn collections(state: &State) -> [u64; 3] {
+    [
+        collected(state, 8, 1),
+        collected(state, 9, 1),
+        collected(state, 9, 2),
+    ]
+}
+
+/// Whether the output of the check is located, and what is collected before and after a Collect.
+type Collected = (bool, [u64; 3], [u64; 3]);
+
+fn collected_after(alloc: Global, state: &mut State, loaded: &Loaded) -> Result<Collected, NoMemory>
+    requires entries { IsShort loaded.now.policy.entries }
+{
+    steps(alloc, state, loaded, 4)?;
+    let is_located = is_located(state);
+    let before = collections(state);
+    collect(alloc, state, loaded)?;
+    Ok((is_located, before, collections(state)))
+}
+
+/// The same from the start.
+fn collected_from_start(alloc: Global) -> Result<Collected, NoMemory> {
+    let loaded = load(alloc)?;
+    let mut state = State::start(alloc);
+    collected_after(alloc, &mut state, &loaded)
+}
+
+#[test]
+fn outputs_are_located_and_collected(rt: HostRuntime) -> Result<(), Fail> {
+    assert_eq!(rt;
+        collected_from_start(rt.alloc())?,
+        (true, [0, 0, 0], [0, 1, 0])
+    );
     Ok(())
 }
 

@@ -85,13 +85,26 @@ fn outputs_of(alloc: Global, caller: u32, kind: Kind) -> Result<OutputList, NoMe
 
 fn push(alloc: Global, entries: &mut EntryList, row: Row) -> Result<(), NoMemory> {
     let Row(caller, moment, kind) = row;
+    let outputs = outputs_of(alloc, caller, kind)?;
     entries.try_push(Entry {
         caller,
         moment,
         salt: 0,
         event: event_of(kind),
-        outputs: outputs_of(alloc, caller, kind)?,
+        outputs,
     })
+}
+
+/// The journal with one more entry.
+fn entries(alloc: Global, more: Option<Row>) -> Result<EntryList, NoMemory> {
+    let mut entries = List::new(alloc);
+    for row in &JOURNAL {
+        push(alloc, &mut entries, *row)?;
+    }
+    if let Some(row) = more {
+        push(alloc, &mut entries, row)?;
+    }
+    Ok(entries)
 }
 
 /// What is found in the journal with one more entry.
@@ -100,105 +113,118 @@ fn found(
     more: Option<Row>,
     lines: &[ConnectionLine],
 ) -> Result<Option<Counts>, NoMemory> {
-    let mut entries = List::new(alloc);
-    for row in &JOURNAL {
-        push(alloc, &mut entries, *row)?;
-    }
-    if let Some(row) = more {
-        push(alloc, &mut entries, row)?;
-    }
     let history = History {
-        entries,
+        entries: entries(alloc, more)?,
         loads: List::new(alloc),
     };
     scan_journal(alloc, &history, lines)
 }
 
-#[test]
-fn counts_an_orderly_journal(rt: HostRuntime) -> Result<(), Fail> {
-    let counts = found(rt.alloc(), None, &[LINE])?.ok_or("not orderly")?;
-    assert_eq!(rt;
+/// Whether the journal with one more entry is in order, with these lines.
+fn is_orderly(
+    alloc: Global,
+    more: Option<Row>,
+    lines: &[ConnectionLine],
+) -> Result<bool, NoMemory> {
+    Ok(found(alloc, more, lines)?.is_some())
+}
+
+/// The totals, and the tallies of connection 1 and of the loader.
+type Told = (Totals, [Option<Tally>; 2]);
+
+fn told_by(counts: &Counts) -> Told {
+    let tallies = &counts.tallies;
+    (
         counts.totals,
-        Totals {
-            entries: 9,
-            loads: 2,
-            refused: 0,
-            wanted: 1
-        }
-    );
-    assert_eq!(rt;
-        counts.tallies.get(1).copied(),
-        Some(Tally {
-            messages: 1,
-            answers: 1
-        })
-    );
-    assert_eq!(rt;
-        counts.tallies.get(0).copied(),
-        Some(Tally {
-            messages: 3,
-            answers: 2
-        })
-    );
-    Ok(())
+        [tallies.get(1).copied(), tallies.get(0).copied()],
+    )
+}
+
+/// What is told of the journal, and nothing where it is not in order.
+fn told(alloc: Global) -> Result<Option<Told>, NoMemory> {
+    match found(alloc, None, &[LINE])? {
+        Some(counts) => Ok(Some(told_by(&counts))),
+        None => Ok(None),
+    }
 }
 
 #[test]
+fn counts_an_orderly_journal(rt: HostRuntime) -> Result<(), Fail> {
+    let totals = Totals {
+        entries: 9,
+        loads: 2,
+        refused: 0,
+        wanted: 1,
+    };
+    let of_connection = Tally {
+        messages: 1,
+        answers: 1,
+    };
+    let of_loader = Tally {
+        messages: 3,
+        answers: 2,
+    };
+    let wanted = Some((totals, [Some(of_connection), Some(of_loader)]));
+    assert_eq!(rt; told(rt.alloc())?, wanted);
+    Ok(())
+}
+
+/// What is entered after the journal, and whether it is in order.
+const NEXT: [(&str, Row, bool); 10] = [
+    (
+        "the loader collects StopWanted",
+        Row(0, 7, Kind::Collects(0)),
+        true,
+    ),
+    (
+        "an entry after the departure",
+        Row(1, 8, Kind::Passes),
+        false,
+    ),
+    (
+        "a Connect without a line",
+        Row(4, 8, Kind::Connects(1000)),
+        false,
+    ),
+    (
+        "a load that nothing asked for",
+        Row(0, 7, Kind::Loads),
+        false,
+    ),
+    ("a load by another", Row(3, 7, Kind::Loads), false),
+    ("a second Stop", Row(3, 7, Kind::Stops), false),
+    ("a second empty batch", Row(2, 7, Kind::Collects(1)), false),
+    ("a moment of its own", Row(0, 8, Kind::Collects(0)), false),
+    (
+        "an output to the greatest caller",
+        Row(0, 7, Kind::Tells(3)),
+        true,
+    ),
+    (
+        "an output to a number above it",
+        Row(0, 7, Kind::Tells(4)),
+        false,
+    ),
+];
+
+#[test]
 fn finds_what_is_not_in_order(rt: HostRuntime) -> Result<(), Fail> {
-    let rows = [
-        (
-            "the loader collects StopWanted",
-            Row(0, 7, Kind::Collects(0)),
-            true,
-        ),
-        (
-            "an entry after the departure",
-            Row(1, 8, Kind::Passes),
-            false,
-        ),
-        (
-            "a Connect without a line",
-            Row(4, 8, Kind::Connects(1000)),
-            false,
-        ),
-        (
-            "a load that nothing asked for",
-            Row(0, 7, Kind::Loads),
-            false,
-        ),
-        ("a load by another", Row(3, 7, Kind::Loads), false),
-        ("a second Stop", Row(3, 7, Kind::Stops), false),
-        ("a second empty batch", Row(2, 7, Kind::Collects(1)), false),
-        ("a moment of its own", Row(0, 8, Kind::Collects(0)), false),
-        (
-            "an output to the greatest caller",
-            Row(0, 7, Kind::Tells(3)),
-            true,
-        ),
-        (
-            "an output to a number above it",
-            Row(0, 7, Kind::Tells(4)),
-            false,
-        ),
-    ];
-    for (caption, row, orderly) in &rows {
-        let counts = found(rt.alloc(), Some(*row), &[LINE])?;
-        assert_eq!(rt; counts.is_some(), *orderly, "{caption}");
+    for (caption, row, orderly) in &NEXT {
+        let found = is_orderly(rt.alloc(), Some(*row), &[LINE])?;
+        assert_eq!(rt; found, *orderly, "{caption}");
     }
     Ok(())
 }
 
 #[test]
 fn finds_lines_that_do_not_fit(rt: HostRuntime) -> Result<(), Fail> {
+    let alloc = rt.alloc();
     let other = ConnectionLine {
         number: 1,
         uid: 1001,
     };
-    assert!(rt; found(rt.alloc(), None, &[other])?.is_none(), "another uid");
-    assert!(rt;
-        found(rt.alloc(), None, &[LINE, LINE])?.is_none(),
-        "a number twice"
-    );
-    assert!(rt; found(rt.alloc(), None, &[])?.is_none(), "no line");
+    assert!(rt; !is_orderly(alloc, None, &[other])?, "another uid");
+    assert!(rt; !is_orderly(alloc, None, &[LINE, LINE])?, "a number twice");
+    assert!(rt; !is_orderly(alloc, None, &[])?, "no line");
     Ok(())
 }
