@@ -4,6 +4,8 @@
 #![tactic(auto)]
 
 #[cfg(test)]
+mod passes;
+#[cfg(test)]
 mod ten_tests;
 #[cfg(test)]
 mod tests;

@@ -1,15 +1,17 @@
 ghost use Rattle.std.specs.Prelude.{◌≡◌};
 ghost use Rattle.authority_model.specs.Entering.{AreAllowed};
+ghost use Rattle.authority_model.specs.Given.{IsStepped};
 ghost use denote.Param.Send.{IsSync, IsSend};
 
+use crate::passes::{admit, close, load, start};
 use crate::turns::{TURNS, event_at, is_same_output, one_load, turn_at, turn_of};
 use authority_core::Authority;
 use authority_model::{Entry, Event, Limits, OutputList};
 use history_lock::{Opened, Pass, TableName, open_table};
+use pk_types::NoMemory;
 use shared_authority::{Kept, LimitsName, Shared};
 use std::alloc::Global;
 use std::marker::Brand;
-use std::process::Abort;
 use std::sync::Wait;
 use std::test::*;
 use std::thread::{Threads, for_each_mut};
@@ -23,30 +25,51 @@ struct Worker<L: LimitsName, T: TableName> {
     pass: Pass<Kept<L>, T>,
 }
 
+/// How many entries a journal has, the first connection whose turns are not in order there, and
+/// whether one thread is answered the same.
+type Looks = (usize, Option<u32>, bool);
+
 #[test]
 fn ten_threads_submit_as_one_history(rt: HostRuntime) -> Result<(), Fail> {
-    name_limits::<Brand, _>(&rt, rt.alloc(), Limits::GREATEST)
+    let (entries, out_of_order, is_same) = name_limits::<Brand, _>(
+        &rt,
+        rt.alloc(),
+        Limits::GREATEST,
+    )?;
+    assert_eq!(rt; entries, (THREADS * TURNS + 1) as usize);
+    assert_eq!(rt; out_of_order, None);
+    assert!(rt; is_same);
+    Ok(())
 }
 
-fn name_limits<L: LimitsName + Send + Sync, R: Threads + Wait + Abort + Sync>(
+fn name_limits<L: LimitsName + Send + Sync, R: Threads + Wait + Sync>(
     rt: &R,
     alloc: Global,
     limits: Limits,
-) -> Result<(), Fail>
+) -> Result<Looks, Fail>
     requires allowed { AreAllowed limits }
     requires limits { limits ≡ L.limits }
 {
     let opened = open_table::<Kept<L>>(alloc)?;
     let authority = ten_beside::<L, Brand, R>(rt, alloc, limits, opened)?;
-    assert_eq!(rt;
-        authority.history().entries.len(),
-        (THREADS * TURNS + 1) as usize
-    );
+    looks(alloc, &authority)
+}
+
+/// What the journal of an authority looks like.
+fn looks(alloc: Global, authority: &Authority) -> Result<Looks, Fail> {
+    let is_same = is_answered_again(alloc, authority)?;
+    let entries = authority.history().entries.len();
+    Ok((entries, out_of_order(authority), is_same))
+}
+
+/// The first connection whose turns the journal does not have in their order.
+fn out_of_order(authority: &Authority) -> Option<u32> {
     for caller in 1..THREADS + 1 {
-        assert!(rt; is_in_order(&authority, caller), "{caller}");
+        if !is_in_order(authority, caller) {
+            return Some(caller);
+        }
     }
-    assert!(rt; is_answered_again(alloc, &authority)?);
-    Ok(())
+    None
 }
 
 /// The authority that ten threads leave, each with a connection of its own.
@@ -60,12 +83,22 @@ fn ten_beside<L: LimitsName + Send + Sync, T: TableName + Send + Sync, R: Thread
     requires limits { limits ≡ L.limits }
     requires table { opened ≡ T.table }
 {
-    let (shared, mut zero) = Shared::<L, T>::start(alloc, limits, opened)?;
-    load_once(rt, alloc, &shared, &mut zero)?;
-    let mut workers = admitted(rt, alloc, &shared, &mut zero)?;
+    let (shared, mut zero) = start::<L, T>(alloc, limits, opened)?;
+    let mut workers = loaded_and_admitted(rt, alloc, &shared, &mut zero)?;
     run_beside(rt, alloc, &shared, workers.as_mut_slice());
     meet_all(&shared, &mut zero, workers.as_mut_slice());
-    Ok(shared.close(zero))
+    Ok(close(shared, zero))
+}
+
+/// Submits the one load, and then makes the passes of all threads.
+fn loaded_and_admitted<L: LimitsName, T: TableName, R: Wait>(
+    rt: &R,
+    alloc: Global,
+    shared: &Shared<L, T>,
+    zero: &mut Pass<Kept<L>, T>,
+) -> Result<Vec<Worker<L, T>>, Fail> {
+    load_once(rt, alloc, shared, zero)?;
+    admitted(rt, alloc, shared, zero)
 }
 
 /// Submits the one load.
@@ -76,22 +109,21 @@ fn load_once<L: LimitsName, T: TableName, R: Wait>(
     zero: &mut Pass<Kept<L>, T>,
 ) -> Result<(), Fail> {
     let loaded = one_load(alloc)?;
-    match shared.submit_load(rt, zero, 0, loaded) {
-        Ok(_) => Ok(()),
-        Err(_) => Err("loads")?,
+    match load(rt, shared, zero, loaded) {
+        Some(_) => Ok(()),
+        None => Err("loads")?,
     }
 }
 
-/// A new pass.
+/// Adds a thread with a new pass.
 fn admit_one<L: LimitsName, T: TableName, R: Wait>(
     rt: &R,
     shared: &Shared<L, T>,
     zero: &mut Pass<Kept<L>, T>,
-) -> Result<Worker<L, T>, Fail> {
-    match shared.admit(rt, zero) {
-        Ok(pass) => Ok(Worker { pass }),
-        Err(_) => Err("admits")?,
-    }
+    workers: &mut Vec<Worker<L, T>>,
+) -> Result<(), Fail> {
+    let pass = admit(rt, shared, zero)?;
+    Ok(workers.push(Worker { pass })?)
 }
 
 /// The passes of all threads.
@@ -103,7 +135,7 @@ fn admitted<L: LimitsName, T: TableName, R: Wait>(
 ) -> Result<Vec<Worker<L, T>>, Fail> {
     let mut workers = Vec::new(alloc);
     for _ in 0..THREADS {
-        workers.push(admit_one(rt, shared, zero)?)?;
+        admit_one(rt, shared, zero, &mut workers)?;
     }
     Ok(workers)
 }
@@ -149,26 +181,25 @@ fn take_turn<L: LimitsName, T: TableName, R: Wait>(
     number: u32,
 ) -> bool {
     match event_at(alloc, pass.number(), number) {
-        Ok(event) => submit_one(rt, shared, pass, number, event),
+        Ok(event) => submit_one(rt, shared, pass, number, event).is_some(),
         Err(_) => false,
     }
 }
 
-/// Submits an event, and answers whether it was entered.
+/// Submits an event, and answers its place if it is entered.
 fn submit_one<L: LimitsName, T: TableName, R: Wait>(
     rt: &R,
     shared: &Shared<L, T>,
     pass: &mut Pass<Kept<L>, T>,
     number: u32,
     event: Event,
-) -> bool {
-    if !event.is_stepped() {
-        return false;
-    }
+) -> Option<u64>
+    requires { IsStepped event }
+{
     let moment = u64::from(number / 8);
     shared
         .submit(rt, pass, moment, u128::from(number), event)
-        .is_ok()
+        .ok()
 }
 
 /// Has each thread's pass tell the first pass what it knows.
@@ -201,11 +232,25 @@ fn is_in_order(authority: &Authority, caller: u32) -> bool {
     in_order && entries.next().is_none()
 }
 
+/// An authority with an empty journal.
+fn empty(alloc: Global) -> Result<Authority, NoMemory> {
+    Authority::start(alloc, Limits::GREATEST)
+}
+
 /// Whether one thread that is handed the same in the order of the journal answers the same.
-fn is_answered_again(alloc: Global, authority: &Authority) -> Result<bool, Fail> {
-    let mut again = Authority::start(alloc, Limits::GREATEST)?;
-    for entry in authority.history().entries.as_slice() {
-        if !is_same_step(alloc, &mut again, entry)? {
+fn is_answered_again(alloc: Global, authority: &Authority) -> Result<bool, NoMemory> {
+    let mut again = empty(alloc)?;
+    are_same_steps(alloc, &mut again, authority.history().entries.as_slice())
+}
+
+/// Whether what made some entries, handed in again, makes the same entries.
+fn are_same_steps(
+    alloc: Global,
+    again: &mut Authority,
+    entries: &[Entry],
+) -> Result<bool, NoMemory> {
+    for entry in entries {
+        if !is_same_step(alloc, again, entry)? {
             return Ok(false);
         }
     }
@@ -213,33 +258,51 @@ fn is_answered_again(alloc: Global, authority: &Authority) -> Result<bool, Fail>
 }
 
 /// Whether what made an entry, handed in again, makes the same entry.
-fn is_same_step(alloc: Global, again: &mut Authority, entry: &Entry) -> Result<bool, Fail> {
-    let place = if matches!(&entry.event, Event::Load { .. }) {
-        load_again(alloc, again)?
-    } else {
-        step_again(alloc, again, entry)?
-    };
+fn is_same_step(alloc: Global, again: &mut Authority, entry: &Entry) -> Result<bool, NoMemory> {
+    let place = hand_in_again(alloc, again, entry)?;
     Ok(match place.and_then(|place| again.entry(place)) {
         Some(other) => is_same_entry(entry, other),
         None => false,
     })
 }
 
+/// Hands in what made an entry, and answers the place of the new entry.
+fn hand_in_again(
+    alloc: Global,
+    again: &mut Authority,
+    entry: &Entry,
+) -> Result<Option<u64>, NoMemory> {
+    if matches!(&entry.event, Event::Load { .. }) {
+        load_again(alloc, again)
+    } else {
+        step_again(alloc, again, entry)
+    }
+}
+
 /// Loads the one load, and answers the place of its entry.
-fn load_again(alloc: Global, again: &mut Authority) -> Result<Option<u64>, Fail> {
+fn load_again(alloc: Global, again: &mut Authority) -> Result<Option<u64>, NoMemory> {
     let loaded = one_load(alloc)?;
     Ok(again.load(0, 0, loaded).ok())
 }
 
 /// Hands in the turn that an entry is, and answers the place of the new entry.
-fn step_again(alloc: Global, again: &mut Authority, entry: &Entry) -> Result<Option<u64>, Fail> {
-    let event = event_at(alloc, entry.caller, u32::try_from(entry.salt).unwrap_or(0))?;
+fn step_again(
+    alloc: Global,
+    again: &mut Authority,
+    entry: &Entry,
+) -> Result<Option<u64>, NoMemory> {
+    let number = u32::try_from(entry.salt).unwrap_or(0);
+    let event = event_at(alloc, entry.caller, number)?;
+    Ok(step_like(again, entry, event))
+}
+
+/// Hands in an event with the caller, moment and salt of an entry, and answers the place of the new
+/// entry.
+fn step_like(again: &mut Authority, entry: &Entry, event: Event) -> Option<u64>
+    requires { IsStepped event }
+{
     let moment = entry.moment.min(1 << 62);
-    if event.is_stepped() {
-        Ok(again.step(entry.caller, moment, entry.salt, event).ok())
-    } else {
-        Ok(None)
-    }
+    again.step(entry.caller, moment, entry.salt, event).ok()
 }
 
 /// Whether two entries have the same caller, moment and salt, and tell the same.

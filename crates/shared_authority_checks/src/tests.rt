@@ -2,16 +2,16 @@ ghost use Rattle.std.specs.Prelude.{◌≡◌};
 ghost use Rattle.authority_model.specs.Entering.{AreAllowed};
 ghost use Rattle.authority_model.specs.Given.{IsStepped};
 
+use crate::passes::{admit, announce, close, collect, enter, load, start};
 use authority_core::Authority;
-use authority_model::{Answer, Call, ErrorCause, Event, Limits, Loaded, MAX_BYTES, Message};
+use authority_model::{Answer, ErrorCause, Event, Limits, Loaded, MAX_BYTES, Message};
 use history_lock::{EndCause, Opened, Pass, TableName, open_table};
 use shared_authority::{Collected, Kept, LimitsName, Shared};
 use std::alloc::Global;
 use std::marker::Brand;
-use std::process::Abort;
 use std::sync::Wait;
 use std::test::*;
-use std::thread::{Threads, join};
+use std::thread::{Threads, join_mut};
 
 /// Room for two entries.
 const TWO_ENTRIES: Limits = Limits {
@@ -25,16 +25,29 @@ const FULL: EndCause = EndCause::JournalFull {
     bytes: 128,
 };
 
-#[test]
-fn a_full_journal_ends_the_lock(rt: HostRuntime) -> Result<(), Fail> {
-    name_two_entries::<Brand, _>(&rt, rt.alloc(), TWO_ENTRIES)
+/// How many entries the journal has.
+fn entries_in(authority: &Authority) -> usize {
+    authority.history().entries.len()
 }
 
-fn name_two_entries<L: LimitsName + Send + Sync, R: Threads + Wait + Abort + Sync>(
+/// The places of a load and of a Connect, and the causes by which their two connections then find
+/// the lock ended.
+type Filled = ([Option<u64>; 2], [Option<EndCause>; 2]);
+
+#[test]
+fn a_full_journal_ends_the_lock(rt: HostRuntime) -> Result<(), Fail> {
+    let ((places, causes), entries) = name_two_entries::<Brand, _>(&rt, rt.alloc(), TWO_ENTRIES)?;
+    assert_eq!(rt; places, [Some(0), Some(1)]);
+    assert_eq!(rt; causes, [Some(FULL), Some(FULL)]);
+    assert_eq!(rt; entries, 2);
+    Ok(())
+}
+
+fn name_two_entries<L: LimitsName, R: Wait>(
     rt: &R,
     alloc: Global,
     limits: Limits,
-) -> Result<(), Fail>
+) -> Result<(Filled, usize), Fail>
     requires allowed { AreAllowed limits }
     requires limits { limits ≡ L.limits }
 {
@@ -42,60 +55,36 @@ fn name_two_entries<L: LimitsName + Send + Sync, R: Threads + Wait + Abort + Syn
     fill_two_entries::<L, Brand, R>(rt, alloc, limits, opened)
 }
 
-fn fill_two_entries<
-    L: LimitsName + Send + Sync,
-    T: TableName + Send + Sync,
-    R: Threads + Wait + Abort + Sync,
->(rt: &R, alloc: Global, limits: Limits, opened: Opened<Kept<L>>) -> Result<(), Fail>
+/// What is answered by a journal of two entries, and how many it has in the end.
+fn fill_two_entries<L: LimitsName, T: TableName, R: Wait>(
+    rt: &R,
+    alloc: Global,
+    limits: Limits,
+    opened: Opened<Kept<L>>,
+) -> Result<(Filled, usize), Fail>
     requires allowed { AreAllowed limits }
     requires limits { limits ≡ L.limits }
     requires table { opened ≡ T.table }
 {
-    let (shared, mut zero) = Shared::<L, T>::start(alloc, limits, opened)?;
-    let mut one = shared.admit(rt, &mut zero).ok().ok_or("admits")?;
-    assert_eq!(rt; load(rt, &shared, &mut zero, Loaded::empty(alloc)), Some(0));
-    assert_eq!(rt;
-        enter(rt, &shared, &mut one, Event::Connect { uid: 1000 }),
-        Some(1)
-    );
-    assert_eq!(rt;
-        end_by_refusal(rt, &shared, &mut one, Event::Depart),
-        Some(FULL)
-    );
-    assert_eq!(rt;
-        end_by_refusal(rt, &shared, &mut zero, Event::Depart),
-        Some(FULL)
-    );
-    assert_eq!(rt; shared.close(one).history().entries.len(), 2);
-    Ok(())
+    let (shared, mut zero) = start::<L, T>(alloc, limits, opened)?;
+    let mut one = admit(rt, &shared, &mut zero)?;
+    let filled = fill(rt, alloc, &shared, &mut zero, &mut one);
+    Ok((filled, entries_in(&close(shared, one))))
 }
 
-/// Submits an event, and answers its place if it is entered.
-fn enter<L: LimitsName, T: TableName, R: Wait>(
+/// Loads by the first pass, connects by the second, and then departs by either, which is refused.
+fn fill<L: LimitsName, T: TableName, R: Wait>(
     rt: &R,
+    alloc: Global,
     shared: &Shared<L, T>,
-    pass: &mut Pass<Kept<L>, T>,
-    event: Event,
-) -> Option<u64>
-    requires { IsStepped event }
-{
-    match shared.submit(rt, pass, 0, 0, event) {
-        Ok(place) => Some(place),
-        Err(_) => None,
-    }
-}
-
-/// Submits a load, and answers its place if it is entered.
-fn load<L: LimitsName, T: TableName, R: Wait>(
-    rt: &R,
-    shared: &Shared<L, T>,
-    pass: &mut Pass<Kept<L>, T>,
-    loaded: Loaded,
-) -> Option<u64> {
-    match shared.submit_load(rt, pass, 0, loaded) {
-        Ok(place) => Some(place),
-        Err(_) => None,
-    }
+    zero: &mut Pass<Kept<L>, T>,
+    one: &mut Pass<Kept<L>, T>,
+) -> Filled {
+    let loaded = load(rt, shared, zero, Loaded::empty(alloc));
+    let connected = enter(rt, shared, one, Event::Connect { uid: 1000 });
+    let first = end_by_refusal(rt, shared, one, Event::Depart);
+    let second = end_by_refusal(rt, shared, zero, Event::Depart);
+    ([loaded, connected], [first, second])
 }
 
 /// Submits an event. Where it is refused it comes back, and the lock ends by this cause; the answer
@@ -114,16 +103,28 @@ fn end_by_refusal<L: LimitsName, T: TableName, R: Wait>(
     }
 }
 
+/// The places of a load, a Connect, an Announce and a Depart; and whether another connection
+/// collects the refusal of the Announce, and finds the first one gone behind the Depart.
+type Departed = ([Option<u64>; 4], [bool; 2]);
+
 #[test]
 fn one_connection_collects_what_is_sent_to_another(rt: HostRuntime) -> Result<(), Fail> {
-    name_collected::<Brand, _>(&rt, rt.alloc(), Limits::GREATEST)
+    let ((places, collected), entries) = name_collected::<Brand, _>(
+        &rt,
+        rt.alloc(),
+        Limits::GREATEST,
+    )?;
+    assert_eq!(rt; places, [Some(0), Some(1), Some(2), Some(4)]);
+    assert_eq!(rt; collected, [true, true]);
+    assert_eq!(rt; entries, 6);
+    Ok(())
 }
 
-fn name_collected<L: LimitsName + Send + Sync, R: Threads + Wait + Abort + Sync>(
+fn name_collected<L: LimitsName, R: Wait>(
     rt: &R,
     alloc: Global,
     limits: Limits,
-) -> Result<(), Fail>
+) -> Result<(Departed, usize), Fail>
     requires allowed { AreAllowed limits }
     requires limits { limits ≡ L.limits }
 {
@@ -131,34 +132,54 @@ fn name_collected<L: LimitsName + Send + Sync, R: Threads + Wait + Abort + Sync>
     collect_until_gone::<L, Brand, R>(rt, alloc, limits, opened)
 }
 
-fn collect_until_gone<
-    L: LimitsName + Send + Sync,
-    T: TableName + Send + Sync,
-    R: Threads + Wait + Abort + Sync,
->(rt: &R, alloc: Global, limits: Limits, opened: Opened<Kept<L>>) -> Result<(), Fail>
+/// What is answered until a connection has departed, and how many entries the journal has then.
+fn collect_until_gone<L: LimitsName, T: TableName, R: Wait>(
+    rt: &R,
+    alloc: Global,
+    limits: Limits,
+    opened: Opened<Kept<L>>,
+) -> Result<(Departed, usize), Fail>
     requires allowed { AreAllowed limits }
     requires limits { limits ≡ L.limits }
     requires table { opened ≡ T.table }
 {
-    let (shared, mut zero) = Shared::<L, T>::start(alloc, limits, opened)?;
-    let mut one = shared.admit(rt, &mut zero).ok().ok_or("admits")?;
-    let mut two = shared.admit(rt, &mut one).ok().ok_or("admits")?;
-    assert_eq!(rt; load(rt, &shared, &mut zero, Loaded::empty(alloc)), Some(0));
-    assert_eq!(rt;
-        enter(rt, &shared, &mut one, Event::Connect { uid: 1000 }),
-        Some(1)
-    );
-    let announce = Event::Call {
-        serial: 1,
-        quiet: false,
-        call: Call::Announce { pid: 5, start: 5 },
-    };
-    assert_eq!(rt; enter(rt, &shared, &mut one, announce), Some(2));
-    assert!(rt; collects_bad_announce(rt, &shared, &mut two, 1));
-    assert_eq!(rt; enter(rt, &shared, &mut one, Event::Depart), Some(4));
-    assert!(rt; is_gone(rt, &shared, &mut two, 1));
-    assert_eq!(rt; shared.close(two).history().entries.len(), 6);
-    Ok(())
+    let (shared, mut zero) = start::<L, T>(alloc, limits, opened)?;
+    let (mut one, mut two) = admit_two(rt, &shared, &mut zero)?;
+    let departed = depart_collected(rt, alloc, &shared, &mut zero, &mut one, &mut two);
+    Ok((departed, entries_in(&close(shared, two))))
+}
+
+/// Two new passes, of which the first admits the second.
+fn admit_two<L: LimitsName, T: TableName, R: Wait>(
+    rt: &R,
+    shared: &Shared<L, T>,
+    zero: &mut Pass<Kept<L>, T>,
+) -> Result<(Pass<Kept<L>, T>, Pass<Kept<L>, T>), Fail> {
+    let mut one = admit(rt, shared, zero)?;
+    let two = admit(rt, shared, &mut one)?;
+    Ok((one, two))
+}
+
+/// Loads by the first pass, and connects, announces and departs by the second. The third collects
+/// what the second is sent, where there is something to wait for.
+fn depart_collected<L: LimitsName, T: TableName, R: Wait>(
+    rt: &R,
+    alloc: Global,
+    shared: &Shared<L, T>,
+    zero: &mut Pass<Kept<L>, T>,
+    one: &mut Pass<Kept<L>, T>,
+    two: &mut Pass<Kept<L>, T>,
+) -> Departed {
+    let loaded = load(rt, shared, zero, Loaded::empty(alloc));
+    let connected = enter(rt, shared, one, Event::Connect { uid: 1000 });
+    let announced = announce(rt, shared, one);
+    let is_refused = announced.is_some() && collects_bad_announce(rt, shared, two, 1);
+    let departed = enter(rt, shared, one, Event::Depart);
+    let is_gone = departed.is_some() && is_gone(rt, shared, two, 1);
+    (
+        [loaded, connected, announced, departed],
+        [is_refused, is_gone],
+    )
 }
 
 /// Whether a Collect takes the connection's first output alone, which refuses an Announce.
@@ -168,9 +189,9 @@ fn collects_bad_announce<L: LimitsName, T: TableName, R: Wait>(
     pass: &mut Pass<Kept<L>, T>,
     of: u32,
 ) -> bool {
-    match shared.collect(rt, pass, of) {
-        Ok(collected) => is_bad_announce(&collected),
-        Err(_) => false,
+    match collect(rt, shared, pass, of) {
+        Some(collected) => is_bad_announce(&collected),
+        None => false,
     }
 }
 
@@ -181,9 +202,9 @@ fn is_gone<L: LimitsName, T: TableName, R: Wait>(
     pass: &mut Pass<Kept<L>, T>,
     of: u32,
 ) -> bool {
-    match shared.collect(rt, pass, of) {
-        Ok(collected) => matches!(collected, Collected::Gone),
-        Err(_) => false,
+    match collect(rt, shared, pass, of) {
+        Some(collected) => matches!(collected, Collected::Gone),
+        None => false,
     }
 }
 
@@ -203,16 +224,27 @@ fn is_bad_announce(collected: &Collected) -> bool {
         ))
 }
 
+/// How many entries a journal has, and whether it has each of two callers' hundred events in order.
+type Hundreds = (usize, [bool; 2]);
+
 #[test]
 fn two_threads_submit_a_hundred_each(rt: HostRuntime) -> Result<(), Fail> {
-    name_ample::<Brand, _>(&rt, rt.alloc(), Limits::GREATEST)
+    let (counts, (entries, are_in_order)) = name_ample::<Brand, _>(
+        &rt,
+        rt.alloc(),
+        Limits::GREATEST,
+    )?;
+    assert_eq!(rt; counts, (100, 100));
+    assert_eq!(rt; entries, 200);
+    assert_eq!(rt; are_in_order, [true, true]);
+    Ok(())
 }
 
-fn name_ample<L: LimitsName + Send + Sync, R: Threads + Wait + Abort + Sync>(
+fn name_ample<L: LimitsName + Send + Sync, R: Threads + Wait + Sync>(
     rt: &R,
     alloc: Global,
     limits: Limits,
-) -> Result<(), Fail>
+) -> Result<((u32, u32), Hundreds), Fail>
     requires allowed { AreAllowed limits }
     requires limits { limits ≡ L.limits }
 {
@@ -220,32 +252,56 @@ fn name_ample<L: LimitsName + Send + Sync, R: Threads + Wait + Abort + Sync>(
     submit_beside::<L, Brand, R>(rt, alloc, limits, opened)
 }
 
-fn submit_beside<
-    L: LimitsName + Send + Sync,
-    T: TableName + Send + Sync,
-    R: Threads + Wait + Abort + Sync,
->(rt: &R, alloc: Global, limits: Limits, opened: Opened<Kept<L>>) -> Result<(), Fail>
+/// How many events each of two threads entered, and what the journal has of them.
+fn submit_beside<L: LimitsName + Send + Sync, T: TableName + Send + Sync, R: Threads + Wait + Sync>(
+    rt: &R,
+    alloc: Global,
+    limits: Limits,
+    opened: Opened<Kept<L>>,
+) -> Result<((u32, u32), Hundreds), Fail>
     requires allowed { AreAllowed limits }
     requires limits { limits ≡ L.limits }
     requires table { opened ≡ T.table }
 {
-    let (shared, mut one) = Shared::<L, T>::start(alloc, limits, opened)?;
-    let mut two = shared.admit(rt, &mut one).ok().ok_or("admits")?;
-    let both = &shared;
-    let counts = join(
+    let (shared, mut one) = start::<L, T>(alloc, limits, opened)?;
+    let mut two = admit(rt, &shared, &mut one)?;
+    let counts = submit_hundreds(rt, &shared, &mut one, &mut two);
+    let callers = [one.number(), two.number()];
+    Ok((counts, hundreds_in(&close(shared, two), callers)))
+}
+
+/// Two threads submit a hundred events each at once, through passes of their own, which then meet.
+/// Answers how many each entered.
+fn submit_hundreds<
+    'a,
+    L: LimitsName + Send + Sync,
+    T: TableName + Send + Sync,
+    R: Threads + Wait + Sync,
+>(
+    rt: &'a R,
+    shared: &'a Shared<L, T>,
+    one: &mut Pass<Kept<L>, T>,
+    two: &mut Pass<Kept<L>, T>,
+) -> (u32, u32) {
+    let counts = join_mut(
         rt,
-        || submit_hundred(rt, both, &mut one),
-        || submit_hundred(rt, both, &mut two),
+        &mut || submit_hundred(rt, shared, one),
+        &mut || submit_hundred(rt, shared, two),
     );
-    assert_eq!(rt; counts, (100, 100));
-    shared.meet(&mut one, &mut two);
-    let first = one.number();
-    let second = two.number();
-    let authority = shared.close(two);
-    assert_eq!(rt; authority.history().entries.len(), 200);
-    assert!(rt; are_in_order(&authority, first));
-    assert!(rt; are_in_order(&authority, second));
-    Ok(())
+    shared.meet(one, two);
+    counts
+}
+
+/// What the journal has of two callers.
+fn hundreds_in(authority: &Authority, callers: [u32; 2]) -> Hundreds {
+    let [first, second] = callers;
+    (
+        entries_in(authority),
+        [
+            are_in_order(authority, first),
+            are_in_order(authority, second),
+        ],
+    )
 }
 
 /// Submits a hundred events, numbered from 1, and answers how many were entered.

@@ -1,18 +1,32 @@
 // What each of several threads hands in, turn by turn, and what it is told.
+ghost use Rattle.std.specs.Prelude.{IfOk};
+ghost use Rattle.authority_model.specs.Given.{IsStepped};
+
 use authority_model::{
-    Action, Answer, Call, Cookie, ErrorCause, Event, Loaded, Message, Output, Process,
+    Action, ActionList, Answer, Call, Cookie, ErrorCause, Event, Loaded, Message, Output, Process,
+    ProcessList,
 };
-use pk_types::{ActionId, Implicit, List, NoMemory, Subject, Text};
+use pk_types::{Implicit, List, NoMemory, Subject, Text};
 use std::alloc::Global;
-use test_values::{one, text, text_of_bytes};
+use test_values::{action_id, one, text};
 
 /// How many turns a thread has.
 pub const TURNS: u32 = 200;
 
 /// What a connection does in a turn.
-#[derive(Clone, Copy, Debug, PartialEq, Eq)]
+#[derive(Clone, Copy, PartialEq, Eq)]
 pub enum Turn {
     Connect,
+    Call(Called),
+    /// Replies to what was sent with this serial.
+    Return(u32),
+    Pass,
+    Depart,
+}
+
+/// What a connection calls in a turn.
+#[derive(Clone, Copy, PartialEq, Eq)]
+pub enum Called {
     Announce,
     /// A check of the one action, for which an agent may be asked.
     Ask,
@@ -24,14 +38,10 @@ pub enum Turn {
     Register,
     Unregister,
     Enumerate,
-    /// Replies to what was sent with this serial.
-    Return(u32),
-    Pass,
-    Depart,
 }
 
 /// What is told by an output.
-#[derive(Clone, Copy, Debug, PartialEq, Eq)]
+#[derive(Clone, Copy, PartialEq, Eq)]
 pub enum Told {
     Refused(ErrorCause),
     Done,
@@ -62,13 +72,13 @@ pub fn turn_at(caller: u32, number: u32) -> Turn {
     }
     let mixed = mixed(caller, number);
     match mixed % 10 {
-        0 => Turn::Announce,
-        1 | 2 => Turn::Ask,
-        3 => Turn::CheckUnknown,
-        4 => Turn::Cancel,
-        5 => Turn::Register,
-        6 => Turn::Unregister,
-        7 => Turn::Enumerate,
+        0 => Turn::Call(Called::Announce),
+        1 | 2 => Turn::Call(Called::Ask),
+        3 => Turn::Call(Called::CheckUnknown),
+        4 => Turn::Call(Called::Cancel),
+        5 => Turn::Call(Called::Register),
+        6 => Turn::Call(Called::Unregister),
+        7 => Turn::Call(Called::Enumerate),
         8 => Turn::Return(mixed / 10 % 64),
         _ => Turn::Pass,
     }
@@ -78,76 +88,96 @@ pub fn turn_at(caller: u32, number: u32) -> Turn {
 const SUBJECT: Subject = Subject::Process { pid: 5, start: 5 };
 
 /// A check that may be cancelled.
-fn check(alloc: Global, id: &[u8]) -> Result<Call, NoMemory> {
+fn check(alloc: Global, id: &str) -> Result<Call, NoMemory> {
+    let action = text(alloc, id)?;
+    let cancel = text(alloc, "c")?;
     Ok(Call::Check {
         subject: SUBJECT,
-        action: text_of_bytes(alloc, id)?,
+        action,
         details: List::new(alloc),
         flags: 1,
-        cancel: text(alloc, "c")?,
+        cancel,
     })
+}
+
+/// A cancelling of what may be cancelled.
+fn cancelling(alloc: Global) -> Result<Call, NoMemory> {
+    let cancel = text(alloc, "c")?;
+    Ok(Call::Cancel { cancel })
 }
 
 /// A registration at the one path.
 fn registration(alloc: Global) -> Result<Call, NoMemory> {
+    let path = text(alloc, "/a")?;
     Ok(Call::Register {
         subject: SUBJECT,
         locale: Text::new(alloc),
-        path: text(alloc, "/a")?,
+        path,
     })
 }
 
-/// The call of a turn, where it is one.
-fn call_of(alloc: Global, turn: Turn) -> Result<Option<Call>, NoMemory> {
-    Ok(match turn {
-        Turn::Announce => Some(Call::Announce { pid: 5, start: 5 }),
-        Turn::Ask => Some(check(alloc, b"a.ask")?),
-        Turn::CheckUnknown => Some(check(alloc, b"a.none")?),
-        Turn::Cancel => Some(Call::Cancel {
-            cancel: text(alloc, "c")?,
-        }),
-        Turn::Register => Some(registration(alloc)?),
-        Turn::Unregister => Some(Call::Unregister {
-            subject: SUBJECT,
-            path: text(alloc, "/a")?,
-        }),
-        Turn::Enumerate => Some(Call::EnumerateActions {
+/// The end of that registration.
+fn unregistration(alloc: Global) -> Result<Call, NoMemory> {
+    let path = text(alloc, "/a")?;
+    Ok(Call::Unregister {
+        subject: SUBJECT,
+        path,
+    })
+}
+
+/// The call of a turn.
+fn call_of(alloc: Global, called: Called) -> Result<Call, NoMemory> {
+    match called {
+        Called::Announce => Ok(Call::Announce { pid: 5, start: 5 }),
+        Called::Ask => check(alloc, "a.ask"),
+        Called::CheckUnknown => check(alloc, "a.none"),
+        Called::Cancel => cancelling(alloc),
+        Called::Register => registration(alloc),
+        Called::Unregister => unregistration(alloc),
+        Called::Enumerate => Ok(Call::EnumerateActions {
             locale: Text::new(alloc),
         }),
-        _ => None,
+    }
+}
+
+/// The event of a call.
+fn call_event(alloc: Global, serial: u32, called: Called) -> Result<Event, NoMemory>
+    ensures stepped { IfOk result IsStepped }
+{
+    let call = call_of(alloc, called)?;
+    Ok(Event::Call {
+        serial,
+        quiet: false,
+        call,
     })
 }
 
 /// The event of a connection's turn with this number.
-pub fn event_at(alloc: Global, caller: u32, number: u32) -> Result<Event, NoMemory> {
-    let turn = turn_at(caller, number);
-    let call = call_of(alloc, turn)?;
-    Ok(match (turn, call) {
-        (_, Some(call)) => Event::Call {
-            serial: number,
-            quiet: false,
-            call,
-        },
-        (Turn::Connect, None) => Event::Connect { uid: 1000 },
-        (Turn::Return(serial), None) => Event::Returned { serial },
-        (Turn::Depart, None) => Event::Depart,
-        (_, None) => Event::Passed,
-    })
+pub fn event_at(alloc: Global, caller: u32, number: u32) -> Result<Event, NoMemory>
+    ensures stepped { IfOk result IsStepped }
+{
+    match turn_at(caller, number) {
+        Turn::Connect => Ok(Event::Connect { uid: 1000 }),
+        Turn::Call(called) => call_event(alloc, number, called),
+        Turn::Return(serial) => Ok(Event::Returned { serial }),
+        Turn::Pass => Ok(Event::Passed),
+        Turn::Depart => Ok(Event::Depart),
+    }
 }
 
-/// The turn that a call is.
-fn turn_of_call(call: &Call) -> Option<Turn> {
+/// What is called by a call.
+fn called_by(call: &Call) -> Option<Called> {
     match call {
-        Call::Announce { .. } => Some(Turn::Announce),
+        Call::Announce { .. } => Some(Called::Announce),
         Call::Check { action, .. } => Some(if action.bytes() == b"a.ask".as_slice() {
-            Turn::Ask
+            Called::Ask
         } else {
-            Turn::CheckUnknown
+            Called::CheckUnknown
         }),
-        Call::Cancel { .. } => Some(Turn::Cancel),
-        Call::Register { .. } => Some(Turn::Register),
-        Call::Unregister { .. } => Some(Turn::Unregister),
-        Call::EnumerateActions { .. } => Some(Turn::Enumerate),
+        Call::Cancel { .. } => Some(Called::Cancel),
+        Call::Register { .. } => Some(Called::Register),
+        Call::Unregister { .. } => Some(Called::Unregister),
+        Call::EnumerateActions { .. } => Some(Called::Enumerate),
         _ => None,
     }
 }
@@ -155,7 +185,7 @@ fn turn_of_call(call: &Call) -> Option<Turn> {
 /// The turn that an event is.
 pub fn turn_of(event: &Event) -> Option<Turn> {
     match event {
-        Event::Call { call, .. } => turn_of_call(call),
+        Event::Call { call, .. } => Some(Turn::Call(called_by(call)?)),
         Event::Connect { .. } => Some(Turn::Connect),
         Event::Returned { serial } => Some(Turn::Return(*serial)),
         Event::Passed => Some(Turn::Pass),
@@ -197,21 +227,29 @@ pub fn is_same_output(one: &Output, other: &Output) -> bool {
 
 /// The action for which users authenticate.
 fn asked(alloc: Global) -> Result<Action, NoMemory> {
-    let id = ActionId::read(&text(alloc, "a.ask")?).map_err(|_| NoMemory)?;
+    let id = action_id(alloc, "a.ask")?;
     let ask = Implicit::AuthSelf;
     Ok(Action::plain(alloc, id, ask, ask, ask))
 }
 
-/// A load with the one action and the one process.
-pub fn one_load(alloc: Global) -> Result<Loaded, NoMemory> {
+fn actions(alloc: Global) -> Result<ActionList, NoMemory> {
+    one(alloc, asked(alloc)?)
+}
+
+fn processes(alloc: Global) -> Result<ProcessList, NoMemory> {
     let process = Process {
         pid: 5,
         start: 5,
         uid: 1000,
         session: None,
     };
-    let actions = one(alloc, asked(alloc)?)?;
-    let processes = one(alloc, process)?;
+    one(alloc, process)
+}
+
+/// A load with the one action and the one process.
+pub fn one_load(alloc: Global) -> Result<Loaded, NoMemory> {
+    let actions = actions(alloc)?;
+    let processes = processes(alloc)?;
     let mut loaded = Loaded::empty(alloc);
     loaded.policy.actions = actions;
     loaded.world.processes = processes;

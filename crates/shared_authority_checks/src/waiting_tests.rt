@@ -1,7 +1,8 @@
 ghost use Rattle.std.specs.Prelude.{◌≡◌};
 ghost use Rattle.authority_model.specs.Entering.{AreAllowed};
 
-use authority_model::{Answer, Call, ErrorCause, Event, Limits, Message};
+use crate::passes::{admit, announce, collect, enter, start};
+use authority_model::{Answer, ErrorCause, Event, Limits, Message};
 use history_lock::{Opened, Pass, TableName, open_table};
 use shared_authority::{Collected, Kept, LimitsName, Shared};
 use std::alloc::Global;
@@ -9,7 +10,7 @@ use std::marker::Brand;
 use std::process::Abort;
 use std::sync::Wait;
 use std::test::*;
-use std::thread::{Threads, join};
+use std::thread::{Threads, join_mut};
 
 /// How many events come before the one that is answered.
 const SILENT: u32 = 200;
@@ -45,18 +46,29 @@ fn wait_beside<L: LimitsName + Send + Sync, T: TableName + Send + Sync, R: Threa
     requires limits { limits ≡ L.limits }
     requires table { opened ≡ T.table }
 {
-    let (shared, mut zero) = Shared::<L, T>::start(alloc, limits, opened)?;
-    let mut one = match shared.admit(rt, &mut zero) {
-        Ok(one) => one,
-        Err(_) => Err("admits")?,
-    };
-    let both = &shared;
-    let (told, all) = join(
+    let (shared, mut zero) = start::<L, T>(alloc, limits, opened)?;
+    let mut one = admit(rt, &shared, &mut zero)?;
+    Ok(told_beside(rt, &shared, &mut zero, &mut one))
+}
+
+/// What the second pass is told while the first submits, if all that was entered.
+fn told_beside<
+    'a,
+    L: LimitsName + Send + Sync,
+    T: TableName + Send + Sync,
+    R: Threads + Wait + Sync,
+>(
+    rt: &'a R,
+    shared: &'a Shared<L, T>,
+    zero: &mut Pass<Kept<L>, T>,
+    one: &mut Pass<Kept<L>, T>,
+) -> Option<(u32, ErrorCause)> {
+    let (told, all) = join_mut(
         rt,
-        || collect_one(rt, both, &mut one),
-        || submit_all(rt, both, &mut zero),
+        &mut || collect_one(rt, shared, one),
+        &mut || submit_all(rt, shared, zero),
     );
-    Ok(if all { told } else { None })
+    if all { told } else { None }
 }
 
 /// Waits for what connection 0 is sent, and answers what the one output tells.
@@ -65,9 +77,9 @@ fn collect_one<L: LimitsName, T: TableName, R: Wait>(
     shared: &Shared<L, T>,
     pass: &mut Pass<Kept<L>, T>,
 ) -> Option<(u32, ErrorCause)> {
-    match shared.collect(rt, pass, 0) {
-        Ok(collected) => refusal_in(&collected),
-        Err(_) => None,
+    match collect(rt, shared, pass, 0) {
+        Some(collected) => refusal_in(&collected),
+        None => None,
     }
 }
 
@@ -88,16 +100,6 @@ fn refusal_in(collected: &Collected) -> Option<(u32, ErrorCause)> {
     }
 }
 
-/// Submits an event, and answers whether it was entered.
-fn submit_one<L: LimitsName, T: TableName, R: Wait>(
-    rt: &R,
-    shared: &Shared<L, T>,
-    pass: &mut Pass<Kept<L>, T>,
-    event: Event,
-) -> bool {
-    event.is_stepped() && shared.submit(rt, pass, 0, 0, event).is_ok()
-}
-
 /// Connects, passes so often, and announces a process that no world lists. Answers whether all was
 /// entered.
 fn submit_all<L: LimitsName, T: TableName, R: Wait>(
@@ -105,9 +107,9 @@ fn submit_all<L: LimitsName, T: TableName, R: Wait>(
     shared: &Shared<L, T>,
     pass: &mut Pass<Kept<L>, T>,
 ) -> bool {
-    let connects = submit_one(rt, shared, pass, Event::Connect { uid: 1000 });
+    let connects = enter(rt, shared, pass, Event::Connect { uid: 1000 }).is_some();
     let passes = pass_often(rt, shared, pass);
-    connects && passes && announce(rt, shared, pass)
+    connects && passes && announce(rt, shared, pass).is_some()
 }
 
 fn pass_often<L: LimitsName, T: TableName, R: Wait>(
@@ -116,22 +118,9 @@ fn pass_often<L: LimitsName, T: TableName, R: Wait>(
     pass: &mut Pass<Kept<L>, T>,
 ) -> bool {
     for _ in 0..SILENT {
-        if !submit_one(rt, shared, pass, Event::Passed) {
+        if enter(rt, shared, pass, Event::Passed).is_none() {
             return false;
         }
     }
     true
-}
-
-fn announce<L: LimitsName, T: TableName, R: Wait>(
-    rt: &R,
-    shared: &Shared<L, T>,
-    pass: &mut Pass<Kept<L>, T>,
-) -> bool {
-    let announce = Event::Call {
-        serial: 1,
-        quiet: false,
-        call: Call::Announce { pid: 5, start: 5 },
-    };
-    submit_one(rt, shared, pass, announce)
 }
