@@ -1,6 +1,6 @@
 // The real tree over files that the test makes.
 use pk_outside::{DirTree, FileBytes, Names, Tree, TreeRefused};
-use pk_types::Text;
+use pk_types::{NoMemory, Text};
 use std::alloc::Global;
 use std::fs;
 use std::os::unix::fs::symlink;
@@ -26,23 +26,53 @@ fn reads_abc<T: Tree>(tree: &mut T, path: &Text) -> bool {
     }
 }
 
+/// Whether a tree's file is too long for a limit of two bytes.
+fn is_too_long<T: Tree>(tree: &mut T, path: &Text) -> bool {
+    matches!(tree.read(path, 2), Ok(FileBytes::TooLong))
+}
+
+/// Whether a tree finds no directory at the path.
+fn has_no_directory<T: Tree>(tree: &mut T, path: &Text) -> bool {
+    matches!(tree.names(path), Ok(Names::Absent))
+}
+
+/// What a tree tells of a directory and of the file in it, by the questions above, and its faults.
+fn told<T: Tree>(
+    alloc: Global,
+    tree: &mut T,
+    directory: &str,
+    file: &str,
+) -> Result<([bool; 4], u64), NoMemory> {
+    let directory = text(alloc, directory)?;
+    let file = text(alloc, file)?;
+    let answers = [
+        lists_one(tree, &directory),
+        reads_abc(tree, &file),
+        is_too_long(tree, &file),
+        has_no_directory(tree, &file),
+    ];
+    Ok((answers, tree.faults()))
+}
+
 #[test]
 fn real_tree_reads_the_files_of_the_system(rt: HostRuntime) -> Result<(), Fail> {
     fs::create_dir_all(&rt, "tree_of_files")?;
     fs::write(&rt, "tree_of_files/a.policy", "abc")?;
     let mut tree = DirTree::new(&rt);
-    assert!(rt; lists_one(&mut tree, &text(rt.alloc(), "tree_of_files")?));
-    let file = text(rt.alloc(), "tree_of_files/a.policy")?;
-    assert!(rt; reads_abc(&mut tree, &file));
-    assert!(rt; matches!(tree.read(&file, 2), Ok(FileBytes::TooLong)));
-    assert!(rt; matches!(tree.names(&file), Ok(Names::Absent)));
-    assert_eq!(rt; tree.faults(), 0);
+    let told = told(
+        rt.alloc(),
+        &mut tree,
+        "tree_of_files",
+        "tree_of_files/a.policy",
+    )?;
+    assert_eq!(rt; told, ([true; 4], 0));
     Ok(())
 }
 
 /// Whether a tree finds no file at the path.
-fn is_absent<T: Tree>(tree: &mut T, path: &Text) -> bool {
-    matches!(tree.read(path, 9), Ok(FileBytes::Absent))
+fn is_absent<T: Tree>(alloc: Global, tree: &mut T, path: &str) -> Result<bool, NoMemory> {
+    let path = text(alloc, path)?;
+    Ok(matches!(tree.read(&path, 9), Ok(FileBytes::Absent)))
 }
 
 #[test]
@@ -56,11 +86,24 @@ fn directories_devices_and_missing_files_are_absent(rt: HostRuntime) -> Result<(
         "tree_of_none/file/b",
         "/dev/null",
     ] {
-        let path = text(rt.alloc(), path)?;
-        assert!(rt; is_absent(&mut tree, &path), "{path:?}");
+        assert!(rt; is_absent(rt.alloc(), &mut tree, path)?, "{path:?}");
     }
     assert_eq!(rt; tree.faults(), 0);
     Ok(())
+}
+
+/// Whether a tree fails at the path as a file and as a directory, and its faults.
+fn fails_at<T: Tree>(
+    alloc: Global,
+    tree: &mut T,
+    path: &str,
+) -> Result<([bool; 2], u64), NoMemory> {
+    let path = text(alloc, path)?;
+    let answers = [
+        matches!(tree.read(&path, 9), Err(TreeRefused::Failed)),
+        matches!(tree.names(&path), Err(TreeRefused::Failed)),
+    ];
+    Ok((answers, tree.faults()))
 }
 
 #[test]
@@ -68,9 +111,9 @@ fn link_to_itself_is_a_fault(rt: HostRuntime) -> Result<(), Fail> {
     let _ = fs::remove_file(&rt, "round_link");
     symlink(&rt, "round_link", "round_link")?;
     let mut tree = DirTree::new(&rt);
-    let round = text(rt.alloc(), "round_link")?;
-    assert!(rt; matches!(tree.read(&round, 9), Err(TreeRefused::Failed)));
-    assert!(rt; matches!(tree.names(&round), Err(TreeRefused::Failed)));
-    assert_eq!(rt; tree.faults(), 2);
+    assert_eq!(rt;
+        fails_at(rt.alloc(), &mut tree, "round_link")?,
+        ([true; 2], 2)
+    );
     Ok(())
 }
