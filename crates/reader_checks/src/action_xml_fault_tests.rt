@@ -1,6 +1,7 @@
 // Faulty files with their first faults, and files at their limits.
 use action_xml::*;
-use std::alloc::{AllocError, Global};
+use pk_types::NoMemory;
+use std::alloc::Global;
 use std::test::Fail;
 
 /// A file, its first fault and the fault's place.
@@ -505,6 +506,7 @@ const FAULTS: [FaultRow; 143] = [
     (b"<policyconfig/>\xed\xa0\x80", XmlFaultKind::NotUtf8, 15),
 ];
 
+/// Whether a file has this first fault at this place.
 fn is_refused(alloc: Global, bytes: &[u8], kind: XmlFaultKind, at: usize) -> bool {
     match read(alloc, bytes) {
         Ok(_) => false,
@@ -522,7 +524,7 @@ fn faults_are_told(rt: HostRuntime) -> Result<(), Fail> {
 }
 
 /// The prefix, that many letters, and the suffix.
-fn long_file(alloc: Global, prefix: &[u8], n: usize, suffix: &[u8]) -> Result<Vec<u8>, AllocError> {
+fn long_file(alloc: Global, prefix: &[u8], n: usize, suffix: &[u8]) -> Result<Vec<u8>, NoMemory> {
     let mut file = Vec::from_slice(alloc, prefix)?;
     for _ in 0..n {
         file.push(b'a')?;
@@ -531,36 +533,59 @@ fn long_file(alloc: Global, prefix: &[u8], n: usize, suffix: &[u8]) -> Result<Ve
     Ok(file)
 }
 
-#[test]
-fn long_files_are_judged(rt: HostRuntime) -> Result<(), Fail> {
-    let comment = long_file(rt.alloc(), b"<!--", 4_194_300, b"")?;
-    assert!(rt;
-        is_refused(
-            rt.alloc(),
-            comment.as_slice(),
-            XmlFaultKind::Malformed,
-            4_194_304
-        )
-    );
-    let more = long_file(rt.alloc(), b"<!--", 4_194_301, b"")?;
-    assert!(rt; is_refused(rt.alloc(), more.as_slice(), XmlFaultKind::TooLong, 0));
-    let text = long_file(
-        rt.alloc(),
+/// A prefix, a number of letters and a suffix; the first fault of that file and the fault's place.
+type LongRow = (&'static [u8], usize, &'static [u8], XmlFaultKind, usize);
+
+/// Faulty files that are long or that have a long part.
+const LONG_FAULTS: [LongRow; 5] = [
+    (b"<!--", 4_194_300, b"", XmlFaultKind::Malformed, 4_194_304),
+    (b"<!--", 4_194_301, b"", XmlFaultKind::TooLong, 0),
+    (
+        b"<policyconfig>\n<vendor>",
+        65_536,
+        b"</vendor></policyconfig>",
+        XmlFaultKind::TooLong,
+        15,
+    ),
+    (
+        b"<policyconfig a='",
+        65_536,
+        b"'/>",
+        XmlFaultKind::TooLong,
+        14,
+    ),
+    (
+        b"<policyconfig><action id='",
+        256,
+        b"' 5>",
+        XmlFaultKind::ActionId,
+        22,
+    ),
+];
+
+/// Whether a long file has its fault.
+fn is_long_refused(alloc: Global, row: &LongRow) -> Result<bool, NoMemory> {
+    let (prefix, n, suffix, kind, at) = *row;
+    let file = long_file(alloc, prefix, n, suffix)?;
+    Ok(is_refused(alloc, file.as_slice(), kind, at))
+}
+
+/// Whether a vendor of the greatest length is read.
+fn is_long_vendor_read(alloc: Global) -> Result<bool, NoMemory> {
+    let file = long_file(
+        alloc,
         b"<policyconfig><vendor>",
         65_535,
         b"</vendor></policyconfig>",
     )?;
-    assert!(rt; read(rt.alloc(), text.as_slice()).is_ok());
-    let text = long_file(
-        rt.alloc(),
-        b"<policyconfig>\n<vendor>",
-        65_536,
-        b"</vendor></policyconfig>",
-    )?;
-    assert!(rt; is_refused(rt.alloc(), text.as_slice(), XmlFaultKind::TooLong, 15));
-    let value = long_file(rt.alloc(), b"<policyconfig a='", 65_536, b"'/>")?;
-    assert!(rt; is_refused(rt.alloc(), value.as_slice(), XmlFaultKind::TooLong, 14));
-    let id = long_file(rt.alloc(), b"<policyconfig><action id='", 256, b"' 5>")?;
-    assert!(rt; is_refused(rt.alloc(), id.as_slice(), XmlFaultKind::ActionId, 22));
+    Ok(read(alloc, file.as_slice()).is_ok())
+}
+
+#[test]
+fn long_files_are_judged(rt: HostRuntime) -> Result<(), Fail> {
+    for row in LONG_FAULTS.iter() {
+        assert!(rt; is_long_refused(rt.alloc(), row)?, "{:?}", row.0);
+    }
+    assert!(rt; is_long_vendor_read(rt.alloc())?);
     Ok(())
 }

@@ -3,6 +3,7 @@ use action_xml::*;
 use authority_model::{Action, LocalizedList};
 use pk_types::Text;
 use std::alloc::{AllocError, Global};
+use std::fmt::Write;
 use std::str;
 use std::test::Fail;
 
@@ -160,65 +161,58 @@ fn plain(text: &Text) -> &str {
     }
 }
 
-fn texts_shown(alloc: Global, mark: &str, texts: &LocalizedList) -> Result<String, AllocError> {
-    let mut shown = String::new(alloc);
-    for i in 0..texts.len() {
-        let Some(t) = texts.get(i) else {
-            return Ok(shown);
-        };
-        shown.push_str(format!(in alloc;
-            " {mark}:{}={}",
-            plain(&t.lang),
-            plain(&t.text)
-        )?.as_str())?;
+/// Adds texts and their languages behind this mark.
+fn push_texts(shown: &mut String, mark: &str, texts: &LocalizedList) -> Result<(), AllocError> {
+    for t in texts.as_slice() {
+        write!(shown, " {mark}:{}={}", plain(&t.lang), plain(&t.text))?;
     }
-    Ok(shown)
+    Ok(())
 }
 
-fn annotations_shown(alloc: Global, action: &Action) -> Result<String, AllocError> {
-    let mut shown = String::new(alloc);
-    for i in 0..action.annotations.len() {
-        let Some(pair) = action.annotations.get(i) else {
-            return Ok(shown);
-        };
-        shown.push_str(format!(in alloc;
-            " {}={}",
-            plain(&pair.key),
-            plain(&pair.value)
-        )?.as_str())?;
+/// Adds the annotations of an action.
+fn push_annotations(shown: &mut String, action: &Action) -> Result<(), AllocError> {
+    for pair in action.annotations.as_slice() {
+        write!(shown, " {}={}", plain(&pair.key), plain(&pair.value))?;
     }
-    Ok(shown)
+    Ok(())
 }
 
-/// `ID ANY INACTIVE ACTIVE VENDOR|URL|ICON`, then descriptions, messages and annotations.
-fn action_shown(alloc: Global, action: &Action) -> Result<String, AllocError> {
+/// Adds `ID ANY INACTIVE ACTIVE VENDOR|URL|ICON`.
+fn push_head(shown: &mut String, action: &Action) -> Result<(), AllocError> {
     let id = plain(action.id.text());
+    let (any, inactive, active) = (action.any, action.inactive, action.active);
+    write!(shown, "{id} {any:?} {inactive:?} {active:?} ")?;
     let (vendor, url, icon) = (
         plain(&action.vendor),
         plain(&action.vendor_url),
         plain(&action.icon),
     );
-    let (any, inactive, active) = (action.any, action.inactive, action.active);
-    let descriptions = texts_shown(alloc, "d", &action.descriptions)?;
-    let messages = texts_shown(alloc, "m", &action.messages)?;
-    let annotations = annotations_shown(alloc, action)?;
-    format!(in alloc;
-        "{id} {any:?} {inactive:?} {active:?} {vendor}|{url}|{icon}{descriptions}{messages}{annotations};"
-    )
+    write!(shown, "{vendor}|{url}|{icon}")
+}
+
+/// Adds that, then descriptions, messages and annotations.
+fn push_action(shown: &mut String, action: &Action) -> Result<(), AllocError> {
+    push_head(shown, action)?;
+    push_texts(shown, "d", &action.descriptions)?;
+    push_texts(shown, "m", &action.messages)?;
+    push_annotations(shown, action)?;
+    shown.push_str(";")
+}
+
+/// Adds the actions of a file, one after the other.
+fn push_actions(shown: &mut String, file: &ActionFile) -> Result<(), AllocError> {
+    for action in file.actions.as_slice() {
+        push_action(shown, action)?;
+    }
+    Ok(())
 }
 
 /// The actions of a file one after the other, or its fault.
 fn file_shown(alloc: Global, bytes: &[u8]) -> Result<String, AllocError> {
-    let file = match read(alloc, bytes) {
-        Ok(file) => file,
-        Err(fault) => return format!(in alloc; "{fault}"),
-    };
     let mut shown = String::new(alloc);
-    for i in 0..file.actions.len() {
-        let Some(action) = file.actions.get(i) else {
-            return Ok(shown);
-        };
-        shown.push_str(action_shown(alloc, action)?.as_str())?;
+    match read(alloc, bytes) {
+        Ok(file) => push_actions(&mut shown, &file)?,
+        Err(fault) => write!(shown, "{fault}")?,
     }
     Ok(shown)
 }
@@ -235,9 +229,9 @@ fn files_are_read(rt: HostRuntime) -> Result<(), Fail> {
 
 #[test]
 fn package_files_are_read(rt: HostRuntime) -> Result<(), Fail> {
-    let clock = file_shown(rt.alloc(), CLOCK.as_bytes())?;
-    assert_eq!(rt; clock.as_str(), CLOCK_ACTIONS);
-    let scanners = file_shown(rt.alloc(), SCANNERS.as_bytes())?;
-    assert_eq!(rt; scanners.as_str(), SCANNERS_ACTIONS);
+    for (file, want) in [(CLOCK, CLOCK_ACTIONS), (SCANNERS, SCANNERS_ACTIONS)] {
+        let shown = file_shown(rt.alloc(), file.as_bytes())?;
+        assert_eq!(rt; shown.as_str(), want);
+    }
     Ok(())
 }

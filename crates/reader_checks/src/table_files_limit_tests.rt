@@ -1,15 +1,18 @@
 // Each table at its limits.
 use authority_model::{SessionList, UserList};
+use pk_types::NoMemory;
 use std::alloc::{AllocError, Global};
+use std::fmt::Write;
 use std::test::Fail;
 use table_files::{TableFault, read_group, read_passwd, read_processes, read_sessions};
 
-/// So many bytes.
-fn repeated(alloc: Global, byte: u8, n: usize) -> Result<Vec<u8>, AllocError> {
+/// So many times a byte, and then a text.
+fn repeated(alloc: Global, byte: u8, n: usize, back: &[u8]) -> Result<Vec<u8>, NoMemory> {
     let mut bytes = Vec::with_capacity(alloc, n)?;
     for _ in 0..n {
         bytes.push(byte)?;
     }
+    bytes.extend_from_slice(back)?;
     Ok(bytes)
 }
 
@@ -17,8 +20,7 @@ fn repeated(alloc: Global, byte: u8, n: usize) -> Result<Vec<u8>, AllocError> {
 fn rows(alloc: Global, n: u32, front: &str, back: &str) -> Result<String, AllocError> {
     let mut all = String::new(alloc);
     for i in 0..n {
-        let row = format!(in alloc; "{front}{i}{back}\n")?;
-        all.push_str(row.as_str())?;
+        write!(all, "{front}{i}{back}\n")?;
     }
     Ok(all)
 }
@@ -27,8 +29,7 @@ fn rows(alloc: Global, n: u32, front: &str, back: &str) -> Result<String, AllocE
 fn user_rows(alloc: Global, n: u32) -> Result<String, AllocError> {
     let mut all = String::new(alloc);
     for i in 0..n {
-        let row = format!(in alloc; "u{i}::{i}:7:::\n")?;
-        all.push_str(row.as_str())?;
+        write!(all, "u{i}::{i}:7:::\n")?;
     }
     Ok(all)
 }
@@ -37,8 +38,7 @@ fn user_rows(alloc: Global, n: u32) -> Result<String, AllocError> {
 fn group_rows(alloc: Global, n: u32) -> Result<String, AllocError> {
     let mut all = String::new(alloc);
     for i in 0..n {
-        let row = format!(in alloc; "g{i}::{i}:u{i},u1\n")?;
-        all.push_str(row.as_str())?;
+        write!(all, "g{i}::{i}:u{i},u1\n")?;
     }
     Ok(all)
 }
@@ -47,8 +47,7 @@ fn group_rows(alloc: Global, n: u32) -> Result<String, AllocError> {
 fn row_of_members(alloc: Global, n: u32) -> Result<String, AllocError> {
     let mut all = String::from_str(alloc, "g::9:u0")?;
     for i in 1..n {
-        let member = format!(in alloc; ",u{i}")?;
-        all.push_str(member.as_str())?;
+        write!(all, ",u{i}")?;
     }
     Ok(all)
 }
@@ -58,93 +57,212 @@ fn gids_at(users: &UserList, place: usize) -> usize {
     users.get(place).map_or(0, |user| user.gids.len())
 }
 
-#[test]
-fn bytes_of_a_file_and_a_name(rt: HostRuntime) -> Result<(), Fail> {
-    let mut users = UserList::new(rt.alloc());
-    let mut file = repeated(rt.alloc(), b'#', 16_777_216)?;
-    assert!(rt; read_passwd(rt.alloc(), file.as_slice()).is_ok());
-    assert!(rt; read_group(rt.alloc(), file.as_slice(), &mut users).is_ok());
+/// The fault of a file of users.
+fn users_fault(alloc: Global, bytes: &[u8]) -> Option<TableFault> {
+    read_passwd(alloc, bytes).err()
+}
+
+/// The fault of a file of groups beside no users.
+fn groups_fault(alloc: Global, bytes: &[u8]) -> Option<TableFault> {
+    let mut users = UserList::new(alloc);
+    read_group(alloc, bytes, &mut users).err()
+}
+
+/// The fault of a file of sessions.
+fn sessions_fault(alloc: Global, bytes: &[u8]) -> Option<TableFault> {
+    read_sessions(alloc, bytes).err()
+}
+
+/// The faults that bytes have as a file of users and as one of groups.
+fn both_faults(alloc: Global, bytes: &[u8]) -> [Option<TableFault>; 2] {
+    [users_fault(alloc, bytes), groups_fault(alloc, bytes)]
+}
+
+/// These faults of a comment of the greatest length, and of one that is a byte longer.
+fn comment_faults(alloc: Global) -> Result<[[Option<TableFault>; 2]; 2], NoMemory> {
+    let mut file = repeated(alloc, b'#', 16_777_216, b"")?;
+    let full = both_faults(alloc, file.as_slice());
     file.push(b'#')?;
-    assert!(rt; read_passwd(rt.alloc(), file.as_slice()).err() == Some(TableFault::TooLong));
-    assert!(rt;
-        read_group(rt.alloc(), file.as_slice(), &mut users).err() == Some(TableFault::TooLong)
-    );
-    let mut row = repeated(rt.alloc(), b's', 4096)?;
-    row.extend_from_slice(b" 1 local active")?;
-    assert!(rt; read_sessions(rt.alloc(), row.as_slice()).is_ok());
-    row.insert(0, b's')?;
-    assert!(rt;
-        read_sessions(rt.alloc(), row.as_slice()).err() == Some(TableFault::Fields { line: 1 })
-    );
-    let mut row = repeated(rt.alloc(), b'g', 4096)?;
-    row.extend_from_slice(b"::1:")?;
-    assert!(rt; read_group(rt.alloc(), row.as_slice(), &mut users).is_ok());
-    row.insert(0, b'g')?;
-    assert!(rt;
-        read_group(rt.alloc(), row.as_slice(), &mut users).err()
-            == Some(TableFault::Fields { line: 1 })
-    );
+    Ok([full, both_faults(alloc, file.as_slice())])
+}
+
+#[test]
+fn bytes_of_a_file(rt: HostRuntime) -> Result<(), Fail> {
+    let too_long = Some(TableFault::TooLong);
+    assert_eq!(rt; comment_faults(rt.alloc())?, [[None; 2], [too_long; 2]]);
     Ok(())
+}
+
+/// The fault of a session whose id has so many bytes.
+fn session_fault(alloc: Global, n: usize) -> Result<Option<TableFault>, NoMemory> {
+    let row = repeated(alloc, b's', n, b" 1 local active")?;
+    Ok(sessions_fault(alloc, row.as_slice()))
+}
+
+/// The fault of a group whose name has so many bytes.
+fn group_fault(alloc: Global, n: usize) -> Result<Option<TableFault>, NoMemory> {
+    let row = repeated(alloc, b'g', n, b"::1:")?;
+    Ok(groups_fault(alloc, row.as_slice()))
+}
+
+#[test]
+fn bytes_of_a_name(rt: HostRuntime) -> Result<(), Fail> {
+    let alloc = rt.alloc();
+    let fields = Some(TableFault::Fields { line: 1 });
+    assert_eq!(rt; session_fault(alloc, 4096)?, None);
+    assert_eq!(rt; session_fault(alloc, 4097)?, fields);
+    assert_eq!(rt; group_fault(alloc, 4096)?, None);
+    assert_eq!(rt; group_fault(alloc, 4097)?, fields);
+    Ok(())
+}
+
+/// How many users a file has, or its fault.
+fn user_count(alloc: Global, file: &str) -> Result<usize, TableFault> {
+    let users = read_passwd(alloc, file.as_bytes())?;
+    Ok(users.len())
+}
+
+/// How many users so many rows and the text behind them have, or their fault.
+fn users_read(alloc: Global, n: u32, back: &str) -> Result<Result<usize, TableFault>, AllocError> {
+    let mut file = user_rows(alloc, n)?;
+    file.push_str(back)?;
+    Ok(user_count(alloc, file.as_str()))
 }
 
 #[test]
 fn rows_of_users(rt: HostRuntime) -> Result<(), Fail> {
-    let full = user_rows(rt.alloc(), 65_536)?;
-    assert!(rt; read_passwd(rt.alloc(), full.as_bytes())?.len() == 65_536);
-    let mut over = user_rows(rt.alloc(), 65_537)?;
-    let fault = read_passwd(rt.alloc(), over.as_bytes()).err();
-    assert!(rt; fault == Some(TableFault::TooMany { rows: 65_537 }));
+    let alloc = rt.alloc();
+    let too_many = Err(TableFault::TooMany { rows: 65_537 });
+    assert_eq!(rt; users_read(alloc, 65_536, "")?, Ok(65_536));
+    assert_eq!(rt; users_read(alloc, 65_537, "")?, too_many);
     // an earlier line's fault comes first
-    over.push_str("x\n")?;
-    let fault = read_passwd(rt.alloc(), over.as_bytes()).err();
-    assert!(rt; fault == Some(TableFault::TooMany { rows: 65_537 }));
-    // rows that are passed over are no rows
-    let mut passed_over = full;
-    passed_over.push_str("u1::70000:7:::\nu70000::1:7:::\n")?;
-    assert!(rt; read_passwd(rt.alloc(), passed_over.as_bytes())?.len() == 65_536);
-    // the line that would add a row has another fault, which comes first
-    passed_over.push_str("v::x:7:::\n")?;
-    let fault = read_passwd(rt.alloc(), passed_over.as_bytes()).err();
-    assert!(rt; fault == Some(TableFault::Number { line: 65_539 }));
+    assert_eq!(rt; users_read(alloc, 65_537, "x\n")?, too_many);
     Ok(())
+}
+
+#[test]
+fn rows_that_are_passed_over(rt: HostRuntime) -> Result<(), Fail> {
+    let alloc = rt.alloc();
+    // they are no rows
+    let passed_over = "u1::70000:7:::\nu70000::1:7:::\n";
+    assert_eq!(rt; users_read(alloc, 65_536, passed_over)?, Ok(65_536));
+    // the line that would add a row has another fault, which comes first
+    let faulty = "u1::70000:7:::\nu70000::1:7:::\nv::x:7:::\n";
+    let number = Err(TableFault::Number { line: 65_539 });
+    assert_eq!(rt; users_read(alloc, 65_536, faulty)?, number);
+    Ok(())
+}
+
+/// The greatest number of users.
+fn all_users(alloc: Global) -> Result<UserList, TableFault> {
+    let file = user_rows(alloc, 65_536).map_err(|_| NoMemory)?;
+    read_passwd(alloc, file.as_bytes())
+}
+
+/// How many groups a file beside these users has, or its fault.
+fn group_count(alloc: Global, file: &str, users: &mut UserList) -> Result<usize, TableFault> {
+    let groups = read_group(alloc, file.as_bytes(), users)?;
+    Ok(groups.len())
+}
+
+/// How many groups so many rows and the text behind them have, or their fault.
+fn groups_read(
+    alloc: Global,
+    n: u32,
+    back: &str,
+    users: &mut UserList,
+) -> Result<Result<usize, TableFault>, NoMemory> {
+    let mut file = group_rows(alloc, n)?;
+    file.push_str(back)?;
+    Ok(group_count(alloc, file.as_str(), users))
+}
+
+/// What one row too many is read as beside all users, and the gids of `u1` then.
+type OverRead = (Result<usize, TableFault>, usize);
+
+/// What the greatest number of rows is read as beside the same users, with a row that is passed over,
+/// and the gids of `u1`, `u2` and `u7` then.
+type FullRead = (Result<usize, TableFault>, [usize; 3]);
+
+/// What both are read as, one after the other.
+fn many_groups(alloc: Global) -> Result<(OverRead, FullRead), TableFault> {
+    let mut users = all_users(alloc)?;
+    let over = groups_read(alloc, 65_537, "", &mut users)?;
+    let gids_over = gids_at(&users, 1);
+    let full = groups_read(alloc, 65_536, "g1::70000:u2\n", &mut users)?;
+    let gids = [gids_at(&users, 1), gids_at(&users, 2), gids_at(&users, 7)];
+    Ok(((over, gids_over), (full, gids)))
 }
 
 #[test]
 fn rows_of_groups(rt: HostRuntime) -> Result<(), Fail> {
-    let file = user_rows(rt.alloc(), 65_536)?;
-    let mut users = read_passwd(rt.alloc(), file.as_bytes())?;
-    let over = group_rows(rt.alloc(), 65_537)?;
-    let fault = read_group(rt.alloc(), over.as_bytes(), &mut users).err();
-    assert!(rt; fault == Some(TableFault::TooMany { rows: 65_537 }));
-    assert!(rt; gids_at(&users, 1) == 1);
-    let mut full = group_rows(rt.alloc(), 65_536)?;
-    full.push_str("g1::70000:u2\n")?;
-    assert!(rt; read_group(rt.alloc(), full.as_bytes(), &mut users)?.len() == 65_536);
+    let (over, full) = many_groups(rt.alloc())?;
+    assert_eq!(rt; over, (Err(TableFault::TooMany { rows: 65_537 }), 1));
     // `u1` has its own gid 7 and the other 65,535; `u2` is also in its own
-    assert!(rt; gids_at(&users, 1) == 65_536);
-    assert!(rt; gids_at(&users, 2) == 2);
-    assert!(rt; gids_at(&users, 7) == 1);
-    let row = row_of_members(rt.alloc(), 65_536)?;
-    let mut users = read_passwd(rt.alloc(), file.as_bytes())?;
-    assert!(rt; read_group(rt.alloc(), row.as_bytes(), &mut users)?.len() == 1);
-    assert!(rt; gids_at(&users, 0) == 2);
-    assert!(rt; gids_at(&users, 65_535) == 2);
+    assert_eq!(rt; full, (Ok(65_536), [65_536, 2, 1]));
     Ok(())
 }
 
+/// How many groups a row with all users as its members is read as, and the gids of the first and of
+/// the last user then.
+fn many_members(alloc: Global) -> Result<(usize, [usize; 2]), TableFault> {
+    let row = row_of_members(alloc, 65_536).map_err(|_| NoMemory)?;
+    let mut users = all_users(alloc)?;
+    let count = group_count(alloc, row.as_str(), &mut users)?;
+    Ok((count, [gids_at(&users, 0), gids_at(&users, 65_535)]))
+}
+
 #[test]
-fn rows_of_sessions_and_processes(rt: HostRuntime) -> Result<(), Fail> {
-    let full = rows(rt.alloc(), 65_536, "s", " 1 local active")?;
-    let sessions = read_sessions(rt.alloc(), full.as_bytes())?;
-    assert!(rt; sessions.len() == 65_536);
-    let over = rows(rt.alloc(), 65_537, "s", " 1 local active")?;
-    let fault = read_sessions(rt.alloc(), over.as_bytes()).err();
-    assert!(rt; fault == Some(TableFault::TooMany { rows: 65_537 }));
-    let full = rows(rt.alloc(), 65_536, "", " 1 1 s65535")?;
-    assert!(rt; read_processes(rt.alloc(), full.as_bytes(), &sessions)?.len() == 65_536);
-    let over = rows(rt.alloc(), 65_537, "", " 1 1 -")?;
-    let none = SessionList::new(rt.alloc());
-    let fault = read_processes(rt.alloc(), over.as_bytes(), &none).err();
-    assert!(rt; fault == Some(TableFault::TooMany { rows: 65_537 }));
+fn members_of_a_group(rt: HostRuntime) -> Result<(), Fail> {
+    assert_eq!(rt; many_members(rt.alloc())?, (1, [2, 2]));
+    Ok(())
+}
+
+/// How many sessions a file has, or its fault.
+fn session_count(alloc: Global, file: &str) -> Result<usize, TableFault> {
+    let sessions = read_sessions(alloc, file.as_bytes())?;
+    Ok(sessions.len())
+}
+
+/// How many sessions so many rows have, or their fault.
+fn sessions_read(alloc: Global, n: u32) -> Result<Result<usize, TableFault>, AllocError> {
+    let file = rows(alloc, n, "s", " 1 local active")?;
+    Ok(session_count(alloc, file.as_str()))
+}
+
+#[test]
+fn rows_of_sessions(rt: HostRuntime) -> Result<(), Fail> {
+    let too_many = Err(TableFault::TooMany { rows: 65_537 });
+    assert_eq!(rt; sessions_read(rt.alloc(), 65_536)?, Ok(65_536));
+    assert_eq!(rt; sessions_read(rt.alloc(), 65_537)?, too_many);
+    Ok(())
+}
+
+/// How many processes a file has beside these sessions, or its fault.
+fn process_count(alloc: Global, file: &str, sessions: &SessionList) -> Result<usize, TableFault> {
+    let processes = read_processes(alloc, file.as_bytes(), sessions)?;
+    Ok(processes.len())
+}
+
+/// How many processes of the last session so many rows have beside as many sessions.
+fn processes_read(alloc: Global, n: u32) -> Result<usize, TableFault> {
+    let file = rows(alloc, n, "s", " 1 local active").map_err(|_| NoMemory)?;
+    let sessions = read_sessions(alloc, file.as_bytes())?;
+    let file = rows(alloc, n, "", " 1 1 s65535").map_err(|_| NoMemory)?;
+    process_count(alloc, file.as_str(), &sessions)
+}
+
+/// How many processes without a session so many rows have, or their fault.
+fn loose_processes_read(alloc: Global, n: u32) -> Result<Result<usize, TableFault>, AllocError> {
+    let file = rows(alloc, n, "", " 1 1 -")?;
+    let none = SessionList::new(alloc);
+    Ok(process_count(alloc, file.as_str(), &none))
+}
+
+#[test]
+fn rows_of_processes(rt: HostRuntime) -> Result<(), Fail> {
+    let too_many = Err(TableFault::TooMany { rows: 65_537 });
+    assert_eq!(rt; processes_read(rt.alloc(), 65_536)?, 65_536);
+    assert_eq!(rt; loose_processes_read(rt.alloc(), 65_537)?, too_many);
     Ok(())
 }

@@ -1,7 +1,8 @@
 // Each call once, on bytes whose pieces the XML Recommendation tells.
-use pk_types::{NoMemory, Text};
+use pk_types::{NoMemory, Pair};
 use std::alloc::Global;
 use std::test::Fail;
+use test_values::text_of_bytes;
 use xml_pieces::*;
 
 fn is_rest(read: Result<&[u8], Stop>, want: &[u8]) -> bool {
@@ -75,38 +76,39 @@ fn elements_are_read(rt: HostRuntime) {
     assert!(rt; is_child(next_child(b"a", b" <!--b--><c>"), b"c", b">"));
 }
 
+/// Three texts by their keys, of which two are one.
 fn two_keys(alloc: Global) -> Result<KeyedTexts, NoMemory> {
     let mut texts = KeyedTexts::new(alloc);
     for (key, value) in [(b"k", b"1"), (b"l", b"2"), (b"k", b"3")] {
-        let key = text_of(alloc, key)?;
-        let value = text_of(alloc, value)?;
+        let key = text_of_bytes(alloc, key)?;
+        let value = text_of_bytes(alloc, value)?;
         texts.set(alloc, key, value)?;
     }
     Ok(texts)
 }
 
-fn text_of(alloc: Global, bytes: &[u8]) -> Result<Text, NoMemory> {
-    match Text::try_from_bytes(alloc, bytes) {
-        Ok(text) => Ok(text),
-        Err(_) => Err(NoMemory),
-    }
+/// Whether a pair is there and has this key and this value.
+fn is_pair(pair: Option<&Pair>, key: &[u8], value: &[u8]) -> bool {
+    pair.is_some_and(|pair| pair.key.bytes() == key && pair.value.bytes() == value)
+}
+
+/// Whether these are the two pairs of the texts, each at its place and with its last value.
+fn are_pairs(pairs: &[Pair]) -> bool {
+    pairs.len() == 2 && is_pair(pairs.get(0), b"k", b"3") && is_pair(pairs.get(1), b"l", b"2")
+}
+
+/// Whether the texts have the key `l` and no key `m`, and whether they have their pairs.
+fn keys_told(alloc: Global) -> Result<[bool; 2], NoMemory> {
+    let texts = two_keys(alloc)?;
+    let has_l_alone = texts.has(b"l") && !texts.has(b"m");
+    let pairs = texts.into_pairs();
+    Ok([has_l_alone, are_pairs(pairs.as_slice())])
 }
 
 #[test]
-fn keys_keep_their_places(rt: HostRuntime) {
-    let Ok(texts) = two_keys(rt.alloc()) else {
-        assert!(rt; false);
-        return;
-    };
-    assert!(rt; texts.has(b"l") && !texts.has(b"m"));
-    let pairs = texts.into_pairs();
-    assert!(rt; pairs.len() == 2);
-    assert!(rt;
-        pairs[0].key.bytes() == b"k".as_slice() && pairs[0].value.bytes() == b"3".as_slice()
-    );
-    assert!(rt;
-        pairs[1].key.bytes() == b"l".as_slice() && pairs[1].value.bytes() == b"2".as_slice()
-    );
+fn keys_keep_their_places(rt: HostRuntime) -> Result<(), Fail> {
+    assert_eq!(rt; keys_told(rt.alloc())?, [true; 2]);
+    Ok(())
 }
 
 #[test]
