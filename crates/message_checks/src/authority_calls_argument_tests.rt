@@ -142,6 +142,30 @@ fn agent_body(alloc: Global, locale: &str, path: &str) -> Result<Vec<u8>, AllocE
     Ok(body)
 }
 
+/// What the registration of an agent at this path asks.
+fn registered(alloc: Global, path: &str) -> Result<Asked, NoMemory> {
+    let body = agent_body(alloc, "C", path)?;
+    asked_with(
+        alloc,
+        AUTHORITY,
+        "RegisterAuthenticationAgent",
+        "(sa{sv})ss",
+        &body,
+    )
+}
+
+/// What the end of that registration asks.
+fn unregistered(alloc: Global, path: &str) -> Result<Asked, NoMemory> {
+    let body = agent_body(alloc, "", path)?;
+    asked_with(
+        alloc,
+        AUTHORITY,
+        "UnregisterAuthenticationAgent",
+        "(sa{sv})s",
+        &body,
+    )
+}
+
 /// The path of an agent is an object path.
 #[test]
 fn agents(rt: HostRuntime) {
@@ -151,28 +175,11 @@ fn agents(rt: HostRuntime) {
         ("a", WRONG, WRONG),
         ("/a/", WRONG, WRONG),
     ];
-    for (path, registered, unregistered) in rows {
-        let alloc = rt.alloc();
-        let body = agent_body(alloc, "C", path).expect(&rt, "memory");
-        let found = asked_with(
-            alloc,
-            AUTHORITY,
-            "RegisterAuthenticationAgent",
-            "(sa{sv})ss",
-            &body,
-        )
-        .expect(&rt, "memory");
-        assert!(rt; found == registered, "{path}");
-        let body = agent_body(alloc, "", path).expect(&rt, "memory");
-        let found = asked_with(
-            alloc,
-            AUTHORITY,
-            "UnregisterAuthenticationAgent",
-            "(sa{sv})s",
-            &body,
-        )
-        .expect(&rt, "memory");
-        assert!(rt; found == unregistered, "{path}");
+    for (path, beginning, end) in rows {
+        let found = registered(rt.alloc(), path).expect(&rt, "memory");
+        assert!(rt; found == beginning, "{path}");
+        let found = unregistered(rt.alloc(), path).expect(&rt, "memory");
+        assert!(rt; found == end, "{path}");
     }
 }
 
@@ -190,6 +197,22 @@ fn response_body(
     Ok(body)
 }
 
+/// What the answer to a challenge for such an identity asks.
+fn responded(
+    alloc: Global,
+    kind: &str,
+    entries: &[(&'static str, Given)],
+) -> Result<Asked, NoMemory> {
+    let body = response_body(alloc, kind, entries)?;
+    asked_with(
+        alloc,
+        AUTHORITY,
+        "AuthenticationAgentResponse",
+        "s(sa{sv})",
+        &body,
+    )
+}
+
 /// Users and groups, and kinds that are none.
 #[test]
 fn identities(rt: HostRuntime) {
@@ -205,30 +228,31 @@ fn identities(rt: HostRuntime) {
         ("unix-process", &[uid], WRONG),
     ];
     for (kind, entries, wanted) in rows {
-        let body = response_body(rt.alloc(), kind, entries).expect(&rt, "memory");
-        let found = asked_with(
-            rt.alloc(),
-            AUTHORITY,
-            "AuthenticationAgentResponse",
-            "s(sa{sv})",
-            &body,
-        )
-        .expect(&rt, "memory");
+        let found = responded(rt.alloc(), kind, entries).expect(&rt, "memory");
         assert!(rt; found == wanted, "{kind}");
     }
+}
+
+/// The number of a process and its start.
+fn put_process(out: &mut Vec<u8>) -> Result<(), AllocError> {
+    put_number(out, 5)?;
+    pad(out, 8)?;
+    put_number(out, 6)?;
+    put_number(out, 0)
+}
+
+/// What the announcement of a process asks.
+fn announced(alloc: Global) -> Result<Asked, NoMemory> {
+    let mut body = Vec::new(alloc);
+    put_process(&mut body)?;
+    asked_with(alloc, PROFILE, "Announce", "ut", &body)
 }
 
 /// The methods of this project's own interface.
 #[test]
 fn own_methods(rt: HostRuntime) {
-    let alloc = rt.alloc();
-    let mut body = Vec::new(alloc);
-    put_number(&mut body, 5).expect(&rt, "memory");
-    pad(&mut body, 8).expect(&rt, "memory");
-    put_number(&mut body, 6).expect(&rt, "memory");
-    put_number(&mut body, 0).expect(&rt, "memory");
-    let found = asked_with(alloc, PROFILE, "Announce", "ut", &body).expect(&rt, "memory");
+    let found = announced(rt.alloc()).expect(&rt, "memory");
     assert!(rt; found == Asked::Announce);
-    let found = asked_with(alloc, PROFILE, "Reload", "", b"").expect(&rt, "memory");
+    let found = asked_with(rt.alloc(), PROFILE, "Reload", "", b"").expect(&rt, "memory");
     assert!(rt; found == Asked::Reload);
 }

@@ -50,33 +50,37 @@ fn put_field(out: &mut Vec<u8>, code: u8, letter: u8, text: &str) -> Result<(), 
 }
 
 /// The header fields; a reply names the serial 7.
-fn fields(alloc: Global, sent: &Sent) -> Result<Vec<u8>, AllocError> {
-    let mut out = Vec::new(alloc);
-    put_field(&mut out, 1, b'o', sent.path)?;
-    put_field(&mut out, 2, b's', sent.interface)?;
-    put_field(&mut out, 3, b's', sent.member)?;
+fn put_fields(out: &mut Vec<u8>, sent: &Sent) -> Result<(), AllocError> {
+    put_field(out, 1, b'o', sent.path)?;
+    put_field(out, 2, b's', sent.interface)?;
+    put_field(out, 3, b's', sent.member)?;
     if sent.kind == 3 {
-        put_field(&mut out, 4, b's', "a.Fault")?;
+        put_field(out, 4, b's', "a.Fault")?;
     }
     if sent.kind == 2 || sent.kind == 3 {
-        pad(&mut out, 8)?;
+        pad(out, 8)?;
         out.extend_from_slice(&[5, 1, b'u', 0, 7, 0, 0, 0])?;
     }
-    put_field(&mut out, 8, b'g', sent.signature)?;
-    Ok(out)
+    put_field(out, 8, b'g', sent.signature)
 }
 
-/// The bytes of the message, little-endian, with the serial 9.
-fn bytes_of(alloc: Global, sent: &Sent) -> Result<Vec<u8>, AllocError> {
-    let fields = fields(alloc, sent)?;
-    let mut out = Vec::new(alloc);
+/// The message with these header fields, little-endian, with the serial 9.
+fn put_message(out: &mut Vec<u8>, sent: &Sent, fields: &[u8]) -> Result<(), AllocError> {
     out.extend_from_slice(&[b'l', sent.kind, sent.flags, 1])?;
-    put_number(&mut out, sent.body.len())?;
-    put_number(&mut out, 9)?;
-    put_number(&mut out, fields.len())?;
-    out.extend_from_slice(&fields)?;
-    pad(&mut out, 8)?;
-    out.extend_from_slice(sent.body)?;
+    put_number(out, sent.body.len())?;
+    put_number(out, 9)?;
+    put_number(out, fields.len())?;
+    out.extend_from_slice(fields)?;
+    pad(out, 8)?;
+    out.extend_from_slice(sent.body)
+}
+
+/// The bytes of the message.
+fn bytes_of(alloc: Global, sent: &Sent) -> Result<Vec<u8>, AllocError> {
+    let mut fields = Vec::new(alloc);
+    put_fields(&mut fields, sent)?;
+    let mut out = Vec::new(alloc);
+    put_message(&mut out, sent, &fields)?;
     Ok(out)
 }
 
@@ -184,6 +188,25 @@ fn put_given(out: &mut Vec<u8>, given: Given) -> Result<(), AllocError> {
     }
 }
 
+/// The entries of a dictionary.
+fn put_entries(out: &mut Vec<u8>, entries: &[(&'static str, Given)]) -> Result<(), AllocError> {
+    for (key, given) in entries {
+        pad(out, 8)?;
+        put_text(out, key)?;
+        put_given(out, *given)?;
+    }
+    Ok(())
+}
+
+/// A structure of a kind and a dictionary with these bytes inside.
+fn put_structure(out: &mut Vec<u8>, kind: &str, inside: &[u8]) -> Result<(), AllocError> {
+    put_text(out, kind)?;
+    pad(out, 4)?;
+    put_number(out, inside.len())?;
+    pad(out, 8)?;
+    out.extend_from_slice(inside)
+}
+
 /// A structure of a kind and a dictionary.
 pub fn structure(
     alloc: Global,
@@ -191,17 +214,9 @@ pub fn structure(
     entries: &[(&'static str, Given)],
 ) -> Result<Vec<u8>, AllocError> {
     let mut inside = Vec::new(alloc);
-    for (key, given) in entries {
-        pad(&mut inside, 8)?;
-        put_text(&mut inside, key)?;
-        put_given(&mut inside, *given)?;
-    }
+    put_entries(&mut inside, entries)?;
     let mut out = Vec::new(alloc);
-    put_text(&mut out, kind)?;
-    pad(&mut out, 4)?;
-    put_number(&mut out, inside.len())?;
-    pad(&mut out, 8)?;
-    out.extend_from_slice(&inside)?;
+    put_structure(&mut out, kind, &inside)?;
     Ok(out)
 }
 

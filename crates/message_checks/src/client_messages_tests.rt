@@ -9,8 +9,8 @@ use client_messages::*;
 use dbus_values::{Next, next_message};
 use pk_types::{Identity, List, NoMemory, Pair, PairList, Subject, Text};
 use std::alloc::{AllocError, Global};
-use std::test::*;
-use test_values::{text, text_of_bytes};
+use std::test::Fail;
+use test_values::{one, text, text_of_bytes};
 
 const PROCESS: Subject = Subject::Process { pid: 51, start: 8 };
 
@@ -32,49 +32,63 @@ fn word_of(call: &Call) -> &'static str {
     }
 }
 
+/// Whether an event is such a call, with the serial 3, and a reply is wanted.
+fn is_call(event: &Event, word: &str) -> bool {
+    match event {
+        Event::Call {
+            serial,
+            quiet,
+            call,
+        } => *serial == 3 && !*quiet && word_of(call) == word,
+        _ => false,
+    }
+}
+
 /// Whether the bytes ask such a call, with the serial 3, and a reply is wanted.
 fn is_asked(alloc: Global, bytes: &[u8], word: &str) -> Result<bool, NoMemory> {
     match next_message(bytes) {
-        Next::Whole { message, used } => match event_of(alloc, &message)? {
-            Event::Call {
-                serial,
-                quiet,
-                call,
-            } => Ok(serial == 3 && !quiet && used == bytes.len() && word_of(&call) == word),
-            _ => Ok(false),
-        },
+        Next::Whole { message, used } => {
+            let event = event_of(alloc, &message)?;
+            Ok(used == bytes.len() && is_call(&event, word))
+        }
         Next::Partial => Ok(false),
         Next::Bad { .. } => Ok(false),
     }
 }
 
 /// Whether a call is written so, under the serial 3, and is read as such a call.
-fn is_written(alloc: Global, call: Call, word: &str, want: &[u8]) -> Result<bool, NoMemory>
-    requires { IsSome (method_of call) }
+fn is_call_written(alloc: Global, call: &Call, word: &str, want: &[u8]) -> Result<bool, NoMemory>
+    requires { IsSome (method_of call.now) }
 {
-    if call_is_too_long(alloc, &call)? {
+    if call_is_too_long(alloc, call)? {
         return Ok(false);
     }
-    let bytes = call_bytes(alloc, &call, 3)?;
+    let bytes = call_bytes(alloc, call, 3)?;
     let is_asked = is_asked(alloc, bytes.as_slice(), word)?;
     Ok(is_asked && bytes.as_slice() == want)
 }
 
-fn one_pair(alloc: Global) -> Result<PairList, Fail> {
-    let key = text(alloc, "k")?;
-    let value = text(alloc, "v")?;
-    let mut pairs = List::new(alloc);
-    pairs.try_push(Pair { key, value })?;
-    Ok(pairs)
+/// The same of a call that is handed over.
+fn is_written(alloc: Global, call: Call, word: &str, want: &[u8]) -> Result<bool, NoMemory>
+    requires { IsSome (method_of call) }
+{
+    is_call_written(alloc, &call, word, want)
 }
 
-/// CheckAuthorization, without and with details.
+fn one_pair(alloc: Global) -> Result<PairList, NoMemory> {
+    let key = text(alloc, "k")?;
+    let value = text(alloc, "v")?;
+    one(alloc, Pair { key, value })
+}
+
+/// CheckAuthorization without details.
 #[test]
 fn checks_are_written(rt: HostRuntime) -> Result<(), Fail> {
     let alloc = rt.alloc();
+    let action = text(alloc, "a.yes")?;
     let call = Call::Check {
         subject: PROCESS,
-        action: text(alloc, "a.yes")?,
+        action,
         details: List::new(alloc),
         flags: 0,
         cancel: Text::new(alloc),
@@ -82,75 +96,119 @@ fn checks_are_written(rt: HostRuntime) -> Result<(), Fail> {
     let want =
         b"l\x01\0\x01a\0\0\0\x03\0\0\0\x96\0\0\0\x01\x01o\0%\0\0\0/org/freedesktop/PolicyKit1/Authority\0\0\0\x02\x01s\0$\0\0\0org.freedesktop.PolicyKit1.Authority\0\0\0\0\x03\x01s\0\x12\0\0\0CheckAuthorization\0\0\0\0\0\0\x08\x01g\0\x10(sa{sv})sa{ss}us\0\0\0\x0c\0\0\0unix-process\0\0\0\00\0\0\0\x03\0\0\0pid\0\x01u\0\03\0\0\0\x0a\0\0\0start-time\0\x01t\0\0\0\0\0\0\0\x08\0\0\0\0\0\0\0\x05\0\0\0a.yes\0\0\0\0\0\0\0\0\0\0\0\0\0\0\0\0";
     assert!(rt; is_written(alloc, call, "check", want)?);
+    Ok(())
+}
+
+/// Whether CheckAuthorization for a bus name, with details, is written so.
+fn full_check_is_written(alloc: Global, want: &[u8]) -> Result<bool, NoMemory> {
+    let name = text(alloc, ":1.4")?;
+    let action = text(alloc, "a.b")?;
+    let details = one_pair(alloc)?;
+    let cancel = text(alloc, "x")?;
     let call = Call::Check {
-        subject: Subject::BusName {
-            name: text(alloc, ":1.4")?,
-        },
-        action: text(alloc, "a.b")?,
-        details: one_pair(alloc)?,
+        subject: Subject::BusName { name },
+        action,
+        details,
         flags: 1,
-        cancel: text(alloc, "x")?,
+        cancel,
     };
+    is_written(alloc, call, "check", want)
+}
+
+/// CheckAuthorization for a bus name, with details.
+#[test]
+fn checks_with_details_are_written(rt: HostRuntime) -> Result<(), Fail> {
     let want =
         b"l\x01\0\x01Z\0\0\0\x03\0\0\0\x96\0\0\0\x01\x01o\0%\0\0\0/org/freedesktop/PolicyKit1/Authority\0\0\0\x02\x01s\0$\0\0\0org.freedesktop.PolicyKit1.Authority\0\0\0\0\x03\x01s\0\x12\0\0\0CheckAuthorization\0\0\0\0\0\0\x08\x01g\0\x10(sa{sv})sa{ss}us\0\0\0\x0f\0\0\0system-bus-name\0\x15\0\0\0\x04\0\0\0name\0\x01s\0\x04\0\0\0:1.4\0\0\0\0\x03\0\0\0a.b\0\x0e\0\0\0\0\0\0\0\x01\0\0\0k\0\0\0\x01\0\0\0v\0\0\0\x01\0\0\0\x01\0\0\0x\0";
-    assert!(rt; is_written(alloc, call, "check", want)?);
+    assert!(rt; full_check_is_written(rt.alloc(), want)?);
     Ok(())
 }
 
-/// An agent registers, answers a challenge for a user and for a group, and unregisters.
-#[test]
-fn calls_of_agents_are_written(rt: HostRuntime) -> Result<(), Fail> {
-    let alloc = rt.alloc();
+/// Whether the registration of an agent for a session is written so.
+fn registration_is_written(alloc: Global, want: &[u8]) -> Result<bool, NoMemory> {
+    let id = text(alloc, "s1")?;
+    let locale = text(alloc, "C")?;
+    let path = text(alloc, "/agent")?;
     let call = Call::Register {
-        subject: Subject::Session {
-            id: text(alloc, "s1")?,
-        },
-        locale: text(alloc, "C")?,
-        path: text(alloc, "/agent")?,
+        subject: Subject::Session { id },
+        locale,
+        path,
     };
+    is_written(alloc, call, "register", want)
+}
+
+/// An agent registers.
+#[test]
+fn registrations_are_written(rt: HostRuntime) -> Result<(), Fail> {
     let want =
         b"l\x01\0\x01G\0\0\0\x03\0\0\0\x98\0\0\0\x01\x01o\0%\0\0\0/org/freedesktop/PolicyKit1/Authority\0\0\0\x02\x01s\0$\0\0\0org.freedesktop.PolicyKit1.Authority\0\0\0\0\x03\x01s\0\x1b\0\0\0RegisterAuthenticationAgent\0\0\0\0\0\x08\x01g\0\x0a(sa{sv})ss\0\x0c\0\0\0unix-session\0\0\0\0\x1b\0\0\0\x0a\0\0\0session-id\0\x01s\0\0\0\x02\0\0\0s1\0\0\x01\0\0\0C\0\0\0\x06\0\0\0/agent\0";
-    assert!(rt; is_written(alloc, call, "register", want)?);
-    let call = Call::Unregister {
-        subject: PROCESS,
-        path: text(alloc, "/agent")?,
-    };
-    let want =
-        b"l\x01\0\x01S\0\0\0\x03\0\0\0\x97\0\0\0\x01\x01o\0%\0\0\0/org/freedesktop/PolicyKit1/Authority\0\0\0\x02\x01s\0$\0\0\0org.freedesktop.PolicyKit1.Authority\0\0\0\0\x03\x01s\0\x1d\0\0\0UnregisterAuthenticationAgent\0\0\0\x08\x01g\0\x09(sa{sv})s\0\0\x0c\0\0\0unix-process\0\0\0\00\0\0\0\x03\0\0\0pid\0\x01u\0\03\0\0\0\x0a\0\0\0start-time\0\x01t\0\0\0\0\0\0\0\x08\0\0\0\0\0\0\0\x06\0\0\0/agent\0";
-    assert!(rt; is_written(alloc, call, "unregister", want)?);
-    let call = Call::Respond {
-        cookie: text(alloc, "1-0")?,
-        identity: Identity::User(1000),
-    };
-    let want =
-        b"l\x01\0\x010\0\0\0\x03\0\0\0\x97\0\0\0\x01\x01o\0%\0\0\0/org/freedesktop/PolicyKit1/Authority\0\0\0\x02\x01s\0$\0\0\0org.freedesktop.PolicyKit1.Authority\0\0\0\0\x03\x01s\0\x1b\0\0\0AuthenticationAgentResponse\0\0\0\0\0\x08\x01g\0\x09s(sa{sv})\0\0\x03\0\0\01-0\0\x09\0\0\0unix-user\0\0\0\x10\0\0\0\0\0\0\0\x03\0\0\0uid\0\x01u\0\0\xe8\x03\0\0";
-    assert!(rt; is_written(alloc, call, "respond", want)?);
-    let call = Call::Respond {
-        cookie: text(alloc, "1-0")?,
-        identity: Identity::Group(5),
-    };
-    let want =
-        b"l\x01\0\x010\0\0\0\x03\0\0\0\x97\0\0\0\x01\x01o\0%\0\0\0/org/freedesktop/PolicyKit1/Authority\0\0\0\x02\x01s\0$\0\0\0org.freedesktop.PolicyKit1.Authority\0\0\0\0\x03\x01s\0\x1b\0\0\0AuthenticationAgentResponse\0\0\0\0\0\x08\x01g\0\x09s(sa{sv})\0\0\x03\0\0\01-0\0\x0a\0\0\0unix-group\0\0\x10\0\0\0\0\0\0\0\x03\0\0\0gid\0\x01u\0\0\x05\0\0\0";
-    assert!(rt; is_written(alloc, call, "respond", want)?);
+    assert!(rt; registration_is_written(rt.alloc(), want)?);
     Ok(())
 }
 
-/// The other calls of the manual, and those of this project.
-#[test]
-fn other_calls_are_written(rt: HostRuntime) -> Result<(), Fail> {
-    let alloc = rt.alloc();
-    let call = Call::Cancel {
-        cancel: text(alloc, "x")?,
+/// Whether the end of a registration with this path is written so, and is read as such a call.
+fn end_is_written(alloc: Global, path: &str, word: &str, want: &[u8]) -> Result<bool, NoMemory> {
+    let path = text(alloc, path)?;
+    let call = Call::Unregister {
+        subject: PROCESS,
+        path,
     };
+    is_written(alloc, call, word, want)
+}
+
+/// An agent unregisters.
+#[test]
+fn ends_of_registrations_are_written(rt: HostRuntime) -> Result<(), Fail> {
+    let want =
+        b"l\x01\0\x01S\0\0\0\x03\0\0\0\x97\0\0\0\x01\x01o\0%\0\0\0/org/freedesktop/PolicyKit1/Authority\0\0\0\x02\x01s\0$\0\0\0org.freedesktop.PolicyKit1.Authority\0\0\0\0\x03\x01s\0\x1d\0\0\0UnregisterAuthenticationAgent\0\0\0\x08\x01g\0\x09(sa{sv})s\0\0\x0c\0\0\0unix-process\0\0\0\00\0\0\0\x03\0\0\0pid\0\x01u\0\03\0\0\0\x0a\0\0\0start-time\0\x01t\0\0\0\0\0\0\0\x08\0\0\0\0\0\0\0\x06\0\0\0/agent\0";
+    assert!(rt; end_is_written(rt.alloc(), "/agent", "unregister", want)?);
+    Ok(())
+}
+
+/// Whether the answer to a challenge, for a user or a group, is written so.
+fn answer_is_written(alloc: Global, identity: Identity, want: &[u8]) -> Result<bool, NoMemory> {
+    let cookie = text(alloc, "1-0")?;
+    is_written(alloc, Call::Respond { cookie, identity }, "respond", want)
+}
+
+/// An agent answers a challenge for a user and for a group.
+#[test]
+fn answers_of_agents_are_written(rt: HostRuntime) -> Result<(), Fail> {
+    let want =
+        b"l\x01\0\x010\0\0\0\x03\0\0\0\x97\0\0\0\x01\x01o\0%\0\0\0/org/freedesktop/PolicyKit1/Authority\0\0\0\x02\x01s\0$\0\0\0org.freedesktop.PolicyKit1.Authority\0\0\0\0\x03\x01s\0\x1b\0\0\0AuthenticationAgentResponse\0\0\0\0\0\x08\x01g\0\x09s(sa{sv})\0\0\x03\0\0\01-0\0\x09\0\0\0unix-user\0\0\0\x10\0\0\0\0\0\0\0\x03\0\0\0uid\0\x01u\0\0\xe8\x03\0\0";
+    assert!(rt; answer_is_written(rt.alloc(), Identity::User(1000), want)?);
+    let want =
+        b"l\x01\0\x010\0\0\0\x03\0\0\0\x97\0\0\0\x01\x01o\0%\0\0\0/org/freedesktop/PolicyKit1/Authority\0\0\0\x02\x01s\0$\0\0\0org.freedesktop.PolicyKit1.Authority\0\0\0\0\x03\x01s\0\x1b\0\0\0AuthenticationAgentResponse\0\0\0\0\0\x08\x01g\0\x09s(sa{sv})\0\0\x03\0\0\01-0\0\x0a\0\0\0unix-group\0\0\x10\0\0\0\0\0\0\0\x03\0\0\0gid\0\x01u\0\0\x05\0\0\0";
+    assert!(rt; answer_is_written(rt.alloc(), Identity::Group(5), want)?);
+    Ok(())
+}
+
+/// A check is cancelled.
+#[test]
+fn cancellations_are_written(rt: HostRuntime) -> Result<(), Fail> {
+    let alloc = rt.alloc();
+    let cancel = text(alloc, "x")?;
     let want =
         b"l\x01\0\x01\x06\0\0\0\x03\0\0\0\x8f\0\0\0\x01\x01o\0%\0\0\0/org/freedesktop/PolicyKit1/Authority\0\0\0\x02\x01s\0$\0\0\0org.freedesktop.PolicyKit1.Authority\0\0\0\0\x03\x01s\0\x18\0\0\0CancelCheckAuthorization\0\0\0\0\0\0\0\0\x08\x01g\0\x01s\0\0\x01\0\0\0x\0";
-    assert!(rt; is_written(alloc, call, "cancel", want)?);
-    let call = Call::EnumerateActions {
-        locale: text(alloc, "de")?,
-    };
+    assert!(rt; is_written(alloc, Call::Cancel { cancel }, "cancel", want)?);
+    Ok(())
+}
+
+/// The actions are asked for.
+#[test]
+fn questions_for_actions_are_written(rt: HostRuntime) -> Result<(), Fail> {
+    let alloc = rt.alloc();
+    let locale = text(alloc, "de")?;
     let want =
         b"l\x01\0\x01\x07\0\0\0\x03\0\0\0\x87\0\0\0\x01\x01o\0%\0\0\0/org/freedesktop/PolicyKit1/Authority\0\0\0\x02\x01s\0$\0\0\0org.freedesktop.PolicyKit1.Authority\0\0\0\0\x03\x01s\0\x10\0\0\0EnumerateActions\0\0\0\0\0\0\0\0\x08\x01g\0\x01s\0\0\x02\0\0\0de\0";
-    assert!(rt; is_written(alloc, call, "actions", want)?);
+    assert!(rt; is_written(alloc, Call::EnumerateActions { locale }, "actions", want)?);
+    Ok(())
+}
+
+/// The temporary authorizations of a subject are asked for, and all of them are revoked.
+#[test]
+fn calls_on_all_grants_are_written(rt: HostRuntime) -> Result<(), Fail> {
+    let alloc = rt.alloc();
     let call = Call::EnumerateGrants { subject: PROCESS };
     let want =
         b"l\x01\0\x01H\0\0\0\x03\0\0\0\x9e\0\0\0\x01\x01o\0%\0\0\0/org/freedesktop/PolicyKit1/Authority\0\0\0\x02\x01s\0$\0\0\0org.freedesktop.PolicyKit1.Authority\0\0\0\0\x03\x01s\0 \0\0\0EnumerateTemporaryAuthorizations\0\0\0\0\0\0\0\0\x08\x01g\0\x08(sa{sv})\0\0\0\x0c\0\0\0unix-process\0\0\0\00\0\0\0\x03\0\0\0pid\0\x01u\0\03\0\0\0\x0a\0\0\0start-time\0\x01t\0\0\0\0\0\0\0\x08\0\0\0\0\0\0\0";
@@ -159,56 +217,77 @@ fn other_calls_are_written(rt: HostRuntime) -> Result<(), Fail> {
     let want =
         b"l\x01\0\x01H\0\0\0\x03\0\0\0\x96\0\0\0\x01\x01o\0%\0\0\0/org/freedesktop/PolicyKit1/Authority\0\0\0\x02\x01s\0$\0\0\0org.freedesktop.PolicyKit1.Authority\0\0\0\0\x03\x01s\0\x1d\0\0\0RevokeTemporaryAuthorizations\0\0\0\x08\x01g\0\x08(sa{sv})\0\0\0\x0c\0\0\0unix-process\0\0\0\00\0\0\0\x03\0\0\0pid\0\x01u\0\03\0\0\0\x0a\0\0\0start-time\0\x01t\0\0\0\0\0\0\0\x08\0\0\0\0\0\0\0";
     assert!(rt; is_written(alloc, call, "revoke all", want)?);
-    let call = Call::RevokeOne {
-        id: text(alloc, "tmpauthz0")?,
-    };
+    Ok(())
+}
+
+/// A temporary authorization is revoked.
+#[test]
+fn revocations_are_written(rt: HostRuntime) -> Result<(), Fail> {
+    let alloc = rt.alloc();
+    let id = text(alloc, "tmpauthz0")?;
     let want =
         b"l\x01\0\x01\x0e\0\0\0\x03\0\0\0\x97\0\0\0\x01\x01o\0%\0\0\0/org/freedesktop/PolicyKit1/Authority\0\0\0\x02\x01s\0$\0\0\0org.freedesktop.PolicyKit1.Authority\0\0\0\0\x03\x01s\0 \0\0\0RevokeTemporaryAuthorizationById\0\0\0\0\0\0\0\0\x08\x01g\0\x01s\0\0\x09\0\0\0tmpauthz0\0";
-    assert!(rt; is_written(alloc, call, "revoke one", want)?);
+    assert!(rt; is_written(alloc, Call::RevokeOne { id }, "revoke one", want)?);
+    Ok(())
+}
+
+/// The calls of this project.
+#[test]
+fn own_calls_are_written(rt: HostRuntime) -> Result<(), Fail> {
+    let alloc = rt.alloc();
     let call = Call::Announce { pid: 51, start: 8 };
     let want =
         b"l\x01\0\x01\x10\0\0\0\x03\0\0\0\x80\0\0\0\x01\x01o\0%\0\0\0/org/freedesktop/PolicyKit1/Authority\0\0\0\x02\x01s\0\x22\0\0\0org.freedesktop.PolicyKit1.Profile\0\0\0\0\0\0\x03\x01s\0\x08\0\0\0Announce\0\0\0\0\0\0\0\0\x08\x01g\0\x02ut\03\0\0\0\0\0\0\0\x08\0\0\0\0\0\0\0";
     assert!(rt; is_written(alloc, call, "announce", want)?);
-    let call = Call::Reload;
     let want =
         b"l\x01\0\x01\0\0\0\0\x03\0\0\0o\0\0\0\x01\x01o\0%\0\0\0/org/freedesktop/PolicyKit1/Authority\0\0\0\x02\x01s\0\x22\0\0\0org.freedesktop.PolicyKit1.Profile\0\0\0\0\0\0\x03\x01s\0\x06\0\0\0Reload\0\0";
-    assert!(rt; is_written(alloc, call, "reload", want)?);
+    assert!(rt; is_written(alloc, Call::Reload, "reload", want)?);
     Ok(())
 }
 
 /// What is not an object path is written, and is out of form for the authority.
 #[test]
 fn a_path_that_is_none_is_wrong(rt: HostRuntime) -> Result<(), Fail> {
-    let alloc = rt.alloc();
-    let call = Call::Unregister {
-        subject: PROCESS,
-        path: text(alloc, "agent")?,
-    };
     let want =
         b"l\x01\0\x01R\0\0\0\x03\0\0\0\x97\0\0\0\x01\x01o\0%\0\0\0/org/freedesktop/PolicyKit1/Authority\0\0\0\x02\x01s\0$\0\0\0org.freedesktop.PolicyKit1.Authority\0\0\0\0\x03\x01s\0\x1d\0\0\0UnregisterAuthenticationAgent\0\0\0\x08\x01g\0\x09(sa{sv})s\0\0\x0c\0\0\0unix-process\0\0\0\00\0\0\0\x03\0\0\0pid\0\x01u\0\03\0\0\0\x0a\0\0\0start-time\0\x01t\0\0\0\0\0\0\0\x08\0\0\0\0\0\0\0\x05\0\0\0agent\0";
-    assert!(rt; is_written(alloc, call, "wrong", want)?);
+    assert!(rt; end_is_written(rt.alloc(), "agent", "wrong", want)?);
     Ok(())
 }
 
+/// A detail whose two texts are these bytes.
+fn detail(alloc: Global, bytes: &[u8]) -> Result<Pair, NoMemory> {
+    let key = text_of_bytes(alloc, bytes)?;
+    let value = text_of_bytes(alloc, bytes)?;
+    Ok(Pair { key, value })
+}
+
 /// 128 details of the longest texts, which have more bytes together than a message may have.
-#[test]
-fn a_check_can_be_too_long(rt: HostRuntime) -> Result<(), Fail> {
-    let alloc = rt.alloc();
+fn long_details(alloc: Global) -> Result<PairList, NoMemory> {
     let bytes = vec![in alloc; b'x'; 65535]?;
     let mut details = List::new(alloc);
     for _i in 0..128 {
-        let key = text_of_bytes(alloc, &bytes)?;
-        let value = text_of_bytes(alloc, &bytes)?;
-        details.try_push(Pair { key, value })?;
+        details.try_push(detail(alloc, &bytes)?)?;
     }
+    Ok(details)
+}
+
+/// Whether a check with such details is too long.
+fn long_check_is_too_long(alloc: Global) -> Result<bool, NoMemory> {
+    let action = text(alloc, "a.yes")?;
+    let details = long_details(alloc)?;
     let call = Call::Check {
         subject: PROCESS,
-        action: text(alloc, "a.yes")?,
+        action,
         details,
         flags: 0,
         cancel: Text::new(alloc),
     };
-    assert!(rt; call_is_too_long(alloc, &call)?);
+    call_is_too_long(alloc, &call)
+}
+
+#[test]
+fn a_check_can_be_too_long(rt: HostRuntime) -> Result<(), Fail> {
+    assert!(rt; long_check_is_too_long(rt.alloc())?);
     Ok(())
 }
 
@@ -363,38 +442,48 @@ fn other_messages_tell_nothing(rt: HostRuntime) -> Result<(), Fail> {
     Ok(())
 }
 
-/// A message that ends with one text of so many letters: what is in front of the body, with the
-/// length of the body in its bytes 4 to 7.
-fn with_text(alloc: Global, front: &[u8], letters: usize) -> Result<Vec<u8>, AllocError>
-    requires { letters < 1000000 }
-{
-    let mut bytes = Vec::new(alloc);
-    let size = ((letters + 5) as u32).to_le_bytes();
+/// What is in front of a body, with these bytes of its length in the bytes 4 to 6.
+fn put_front(out: &mut Vec<u8>, front: &[u8], size: [u8; 4]) -> Result<(), AllocError> {
     for (i, byte) in front.iter().enumerate() {
         let byte = if i == 4 || i == 5 || i == 6 {
             size[i - 4]
         } else {
             *byte
         };
-        bytes.extend_from_slice(&[byte])?;
+        out.extend_from_slice(&[byte])?;
     }
+    Ok(())
+}
+
+/// A message that ends with one text of so many letters: what is in front of the body, with the
+/// length of the body in its bytes 4 to 7.
+fn with_text(alloc: Global, front: &[u8], letters: usize) -> Result<Vec<u8>, AllocError>
+    requires { letters < 1000000 }
+{
+    let text = vec![in alloc; b'x'; letters]?;
+    let mut bytes = Vec::new(alloc);
+    put_front(&mut bytes, front, ((letters + 5) as u32).to_le_bytes())?;
     bytes.extend_from_slice(&(letters as u32).to_le_bytes())?;
-    let letters = vec![in alloc; b'x'; letters]?;
-    bytes.extend_from_slice(&letters)?;
+    bytes.extend_from_slice(&text)?;
     bytes.extend_from_slice(&[0])?;
     Ok(bytes)
+}
+
+/// What a reply with a name of so many letters tells.
+fn told_with_name(alloc: Global, letters: usize) -> Result<InShort, NoMemory>
+    requires { letters < 1000000 }
+{
+    let front =
+        b"l\x02\x01\x01\x05\0\0\0\x02\0\0\0\x0f\0\0\0\x05\x01u\0\x07\0\0\0\x08\x01g\0\x01s\0\0";
+    let bytes = with_text(alloc, front, letters)?;
+    told(alloc, &bytes)
 }
 
 /// The longest name, and one that is longer.
 #[test]
 fn a_long_name_is_none(rt: HostRuntime) -> Result<(), Fail> {
-    let alloc = rt.alloc();
-    let front =
-        b"l\x02\x01\x01\x05\0\0\0\x02\0\0\0\x0f\0\0\0\x05\x01u\0\x07\0\0\0\x08\x01g\0\x01s\0\0";
-    let longest = with_text(alloc, front, 65535)?;
-    assert_eq!(rt; told(alloc, &longest)?, InShort::Name(65535));
-    let longer = with_text(alloc, front, 65536)?;
-    assert_eq!(rt; told(alloc, &longer)?, InShort::Other);
+    assert_eq!(rt; told_with_name(rt.alloc(), 65535)?, InShort::Name(65535));
+    assert_eq!(rt; told_with_name(rt.alloc(), 65536)?, InShort::Other);
     Ok(())
 }
 
@@ -466,20 +555,23 @@ fn questions_are_read(rt: HostRuntime) -> Result<(), Fail> {
     Ok(())
 }
 
+/// Whether a reply to the call with the serial 9 is written so, under the serial 2.
+fn is_replied(alloc: Global, reply: AgentReply, want: &[u8]) -> Result<bool, NoMemory> {
+    let bytes = agent_reply(alloc, reply, 9, 2)?;
+    Ok(bytes.as_slice() == want)
+}
+
 /// The three replies to the call with the serial 9.
 #[test]
 fn an_agent_replies(rt: HostRuntime) -> Result<(), Fail> {
     let alloc = rt.alloc();
-    let bytes = agent_reply(alloc, AgentReply::Return, 9, 2)?;
     let want = b"l\x02\x01\x01\0\0\0\0\x02\0\0\0\x08\0\0\0\x05\x01u\0\x09\0\0\0";
-    assert!(rt; bytes.as_slice() == want.as_slice());
-    let bytes = agent_reply(alloc, AgentReply::Failed, 9, 2)?;
+    assert!(rt; is_replied(alloc, AgentReply::Return, want)?);
     let want =
         b"l\x03\x01\x01\x0b\0\0\0\x02\0\0\0?\0\0\0\x04\x01s\0'\0\0\0org.freedesktop.PolicyKit1.Error.Failed\0\x05\x01u\0\x09\0\0\0\x08\x01g\0\x01s\0\0\x06\0\0\0failed\0";
-    assert!(rt; bytes.as_slice() == want.as_slice());
-    let bytes = agent_reply(alloc, AgentReply::Cancelled, 9, 2)?;
+    assert!(rt; is_replied(alloc, AgentReply::Failed, want)?);
     let want =
         b"l\x03\x01\x01\x0e\0\0\0\x02\0\0\0G\0\0\0\x04\x01s\0*\0\0\0org.freedesktop.PolicyKit1.Error.Cancelled\0\0\0\0\0\0\x05\x01u\0\x09\0\0\0\x08\x01g\0\x01s\0\0\x09\0\0\0dismissed\0";
-    assert!(rt; bytes.as_slice() == want.as_slice());
+    assert!(rt; is_replied(alloc, AgentReply::Cancelled, want)?);
     Ok(())
 }

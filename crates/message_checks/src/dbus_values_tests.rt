@@ -5,9 +5,9 @@ ghost use Rattle.dbus_values.specs.Trees.{Struct, Number, Array, Entry, Text, mo
 ghost use Rattle.dbus_values.specs.Written.{tree, list_trees};
 
 use dbus_values::*;
-use pk_types::NoMemory;
+use pk_types::{ByteList, NoMemory};
 use std::alloc::Global;
-use std::test::*;
+use std::test::Fail;
 
 /// A call of CheckAuthorization for process 51 with the action `a.yes`, little-endian.
 const LITTLE: [u8; 265] = [
@@ -127,45 +127,57 @@ fn changed(at: usize, byte: u8) -> [u8; 265] {
     bytes
 }
 
+/// Whether a message has the numbers of the worked one.
+fn has_worked_numbers(message: &WireMessage) -> bool {
+    message.kind == 1 && message.flags == 0 && message.serial == 1 && message.reply_serial.is_none()
+}
+
+/// Whether a message has the texts of the worked one in its header.
+fn has_worked_texts(message: &WireMessage) -> bool {
+    let path = b"/org/freedesktop/PolicyKit1/Authority".as_slice();
+    let interface = b"org.freedesktop.PolicyKit1.Authority".as_slice();
+    let member = b"CheckAuthorization".as_slice();
+    message.path.is_some_and(|text| text == path)
+        && message.interface.is_some_and(|text| text == interface)
+        && message.member.is_some_and(|text| text == member)
+        && message.error_name.is_none()
+        && message.signature == b"(sa{sv})sa{ss}us".as_slice()
+}
+
+/// Whether a message has the parts of the worked one, and nothing after them.
+fn has_worked_parts(message: &WireMessage) -> bool {
+    let mut parts = message.body();
+    for wanted in &PARTS {
+        let is_same = match parts.next() {
+            Some(part) => same_part(&part, wanted),
+            None => false,
+        };
+        if !is_same {
+            return false;
+        }
+    }
+    parts.next().is_none() && parts.next().is_none()
+}
+
+/// Whether the bytes are a message of 265 bytes, and whether it has the numbers, the texts and the
+/// parts of the worked one.
+fn worked(bytes: &[u8]) -> [bool; 4] {
+    match next_message(bytes) {
+        Next::Whole { message, used } => [
+            used == 265,
+            has_worked_numbers(&message),
+            has_worked_texts(&message),
+            has_worked_parts(&message),
+        ],
+        _ => [false; 4],
+    }
+}
+
 /// Both byte orders show the same header values and the same parts, and nothing after them.
 #[test]
 fn worked_message(rt: HostRuntime) {
-    for bytes in [&LITTLE, &BIG] {
-        match next_message(bytes) {
-            Next::Whole { message, used } => {
-                assert_eq!(rt; used, 265);
-                assert_eq!(rt; message.kind, 1);
-                assert_eq!(rt; message.flags, 0);
-                assert_eq!(rt; message.serial, 1);
-                assert!(rt;
-                    message.path.is_some_and(|text| text
-                        == b"/org/freedesktop/PolicyKit1/Authority".as_slice())
-                );
-                assert!(rt;
-                    message.interface.is_some_and(|text| text
-                        == b"org.freedesktop.PolicyKit1.Authority".as_slice())
-                );
-                assert!(rt;
-                    message
-                        .member
-                        .is_some_and(|text| text == b"CheckAuthorization".as_slice())
-                );
-                assert!(rt; message.error_name.is_none());
-                assert!(rt; message.reply_serial.is_none());
-                assert!(rt; message.signature == b"(sa{sv})sa{ss}us".as_slice());
-                let mut parts = message.body();
-                for wanted in &PARTS {
-                    match parts.next() {
-                        Some(part) => assert!(rt; same_part(&part, wanted)),
-                        None => assert!(rt; false, "a part lacks"),
-                    }
-                }
-                assert!(rt; parts.next().is_none());
-                assert!(rt; parts.next().is_none());
-            }
-            _ => assert!(rt; false, "not whole"),
-        }
-    }
+    assert_eq!(rt; worked(&LITTLE), [true; 4]);
+    assert_eq!(rt; worked(&BIG), [true; 4]);
 }
 
 /// Each front that is shorter is partial.
@@ -217,249 +229,221 @@ fn faults(rt: HostRuntime) {
     assert!(rt; is_whole(next_message(&changed(1, 5)), 265));
 }
 
-/// Small messages with a fault.
+/// Small messages with a fault: what is wrong, the bytes, the fault and its place.
+const SMALL_FAULTS: [(&str, &[u8], FaultKind, usize); 14] = [
+    (
+        "a variant of two types",
+        &[
+            108, 5, 0, 1, 12, 0, 0, 0, 1, 0, 0, 0, 7, 0, 0, 0, 8, 1, 103, 0, 1, 118, 0, 0, 2, 117,
+            117, 0, 0, 0, 0, 0, 0, 0, 0, 0,
+        ],
+        FaultKind::Text,
+        24,
+    ),
+    (
+        "a boolean of 2",
+        &[
+            108, 5, 0, 1, 4, 0, 0, 0, 1, 0, 0, 0, 7, 0, 0, 0, 8, 1, 103, 0, 1, 98, 0, 0, 2, 0, 0, 0,
+        ],
+        FaultKind::Bool,
+        24,
+    ),
+    (
+        "the last boolean",
+        &[
+            108, 5, 0, 1, 8, 0, 0, 0, 1, 0, 0, 0, 8, 0, 0, 0, 8, 1, 103, 0, 2, 117, 98, 0, 7, 0, 0,
+            0, 0, 1, 0, 0,
+        ],
+        FaultKind::Bool,
+        28,
+    ),
+    (
+        "a boolean in the other byte order",
+        &[
+            66, 5, 0, 1, 0, 0, 0, 4, 0, 0, 0, 1, 0, 0, 0, 7, 8, 1, 103, 0, 1, 98, 0, 0, 1, 0, 0, 0,
+        ],
+        FaultKind::Bool,
+        24,
+    ),
+    (
+        "bytes left over",
+        &[
+            108, 5, 0, 1, 2, 0, 0, 0, 1, 0, 0, 0, 7, 0, 0, 0, 8, 1, 103, 0, 1, 121, 0, 0, 1, 2,
+        ],
+        FaultKind::Length,
+        25,
+    ),
+    (
+        "a body without a signature",
+        &[108, 5, 0, 1, 1, 0, 0, 0, 1, 0, 0, 0, 0, 0, 0, 0, 1],
+        FaultKind::Length,
+        16,
+    ),
+    (
+        "a body that ends too soon",
+        &[
+            108, 5, 0, 1, 4, 0, 0, 0, 1, 0, 0, 0, 8, 0, 0, 0, 8, 1, 103, 0, 2, 117, 117, 0, 0, 0,
+            0, 0,
+        ],
+        FaultKind::Length,
+        28,
+    ),
+    (
+        "padding that is cut off",
+        &[
+            108, 5, 0, 1, 1, 0, 0, 0, 1, 0, 0, 0, 8, 0, 0, 0, 8, 1, 103, 0, 2, 121, 117, 0, 1,
+        ],
+        FaultKind::Length,
+        28,
+    ),
+    (
+        "a REPLY_SERIAL of 0",
+        &[
+            108, 2, 0, 1, 0, 0, 0, 0, 1, 0, 0, 0, 8, 0, 0, 0, 5, 1, 117, 0, 0, 0, 0, 0,
+        ],
+        FaultKind::Fields,
+        16,
+    ),
+    (
+        "a return without REPLY_SERIAL",
+        &[108, 2, 0, 1, 0, 0, 0, 0, 1, 0, 0, 0, 0, 0, 0, 0],
+        FaultKind::Fields,
+        12,
+    ),
+    (
+        "an error without ERROR_NAME",
+        &[
+            108, 3, 0, 1, 0, 0, 0, 0, 1, 0, 0, 0, 8, 0, 0, 0, 5, 1, 117, 0, 1, 0, 0, 0,
+        ],
+        FaultKind::Fields,
+        12,
+    ),
+    (
+        "a signal without INTERFACE",
+        &[
+            108, 4, 0, 1, 0, 0, 0, 0, 1, 0, 0, 0, 26, 0, 0, 0, 1, 1, 111, 0, 1, 0, 0, 0, 47, 0, 0,
+            0, 0, 0, 0, 0, 3, 1, 115, 0, 1, 0, 0, 0, 77, 0, 0, 0, 0, 0, 0, 0,
+        ],
+        FaultKind::Fields,
+        12,
+    ),
+    (
+        "65 variants",
+        &[
+            108, 5, 0, 1, 196, 0, 0, 0, 1, 0, 0, 0, 7, 0, 0, 0, 8, 1, 103, 0, 1, 118, 0, 0, 1, 118,
+            0, 1, 118, 0, 1, 118, 0, 1, 118, 0, 1, 118, 0, 1, 118, 0, 1, 118, 0, 1, 118, 0, 1, 118,
+            0, 1, 118, 0, 1, 118, 0, 1, 118, 0, 1, 118, 0, 1, 118, 0, 1, 118, 0, 1, 118, 0, 1, 118,
+            0, 1, 118, 0, 1, 118, 0, 1, 118, 0, 1, 118, 0, 1, 118, 0, 1, 118, 0, 1, 118, 0, 1, 118,
+            0, 1, 118, 0, 1, 118, 0, 1, 118, 0, 1, 118, 0, 1, 118, 0, 1, 118, 0, 1, 118, 0, 1, 118,
+            0, 1, 118, 0, 1, 118, 0, 1, 118, 0, 1, 118, 0, 1, 118, 0, 1, 118, 0, 1, 118, 0, 1, 118,
+            0, 1, 118, 0, 1, 118, 0, 1, 118, 0, 1, 118, 0, 1, 118, 0, 1, 118, 0, 1, 118, 0, 1, 118,
+            0, 1, 118, 0, 1, 118, 0, 1, 118, 0, 1, 118, 0, 1, 118, 0, 1, 118, 0, 1, 118, 0, 1, 118,
+            0, 1, 118, 0, 1, 118, 0, 1, 118, 0, 1, 118, 0, 1, 118, 0, 1, 118, 0, 1, 118, 0, 1, 121,
+            0, 5,
+        ],
+        FaultKind::Depth,
+        216,
+    ),
+    (
+        "an unknown field too deep",
+        &[
+            108, 5, 0, 1, 0, 0, 0, 0, 1, 0, 0, 0, 191, 0, 0, 0, 10, 1, 118, 0, 1, 118, 0, 1, 118,
+            0, 1, 118, 0, 1, 118, 0, 1, 118, 0, 1, 118, 0, 1, 118, 0, 1, 118, 0, 1, 118, 0, 1, 118,
+            0, 1, 118, 0, 1, 118, 0, 1, 118, 0, 1, 118, 0, 1, 118, 0, 1, 118, 0, 1, 118, 0, 1, 118,
+            0, 1, 118, 0, 1, 118, 0, 1, 118, 0, 1, 118, 0, 1, 118, 0, 1, 118, 0, 1, 118, 0, 1, 118,
+            0, 1, 118, 0, 1, 118, 0, 1, 118, 0, 1, 118, 0, 1, 118, 0, 1, 118, 0, 1, 118, 0, 1, 118,
+            0, 1, 118, 0, 1, 118, 0, 1, 118, 0, 1, 118, 0, 1, 118, 0, 1, 118, 0, 1, 118, 0, 1, 118,
+            0, 1, 118, 0, 1, 118, 0, 1, 118, 0, 1, 118, 0, 1, 118, 0, 1, 118, 0, 1, 118, 0, 1, 118,
+            0, 1, 118, 0, 1, 118, 0, 1, 118, 0, 1, 118, 0, 1, 118, 0, 1, 118, 0, 1, 118, 0, 1, 118,
+            0, 1, 118, 0, 1, 118, 0, 1, 118, 0, 1, 121, 0, 5, 0,
+        ],
+        FaultKind::Depth,
+        203,
+    ),
+];
+
 #[test]
 fn small_faults(rt: HostRuntime) {
-    // a variant of two types
-    assert!(rt;
-        is_bad(
-            next_message(&[
-                108, 5, 0, 1, 12, 0, 0, 0, 1, 0, 0, 0, 7, 0, 0, 0, 8, 1, 103, 0, 1, 118, 0, 0, 2,
-                117, 117, 0, 0, 0, 0, 0, 0, 0, 0, 0
-            ]),
-            FaultKind::Text,
-            24
-        )
-    );
-    // a boolean of 2
-    assert!(rt;
-        is_bad(
-            next_message(&[
-                108, 5, 0, 1, 4, 0, 0, 0, 1, 0, 0, 0, 7, 0, 0, 0, 8, 1, 103, 0, 1, 98, 0, 0, 2, 0,
-                0, 0
-            ]),
-            FaultKind::Bool,
-            24
-        )
-    );
-    // the last boolean
-    assert!(rt;
-        is_bad(
-            next_message(&[
-                108, 5, 0, 1, 8, 0, 0, 0, 1, 0, 0, 0, 8, 0, 0, 0, 8, 1, 103, 0, 2, 117, 98, 0, 7,
-                0, 0, 0, 0, 1, 0, 0
-            ]),
-            FaultKind::Bool,
-            28
-        )
-    );
-    // a boolean in the other byte order
-    assert!(rt;
-        is_bad(
-            next_message(&[
-                66, 5, 0, 1, 0, 0, 0, 4, 0, 0, 0, 1, 0, 0, 0, 7, 8, 1, 103, 0, 1, 98, 0, 0, 1, 0,
-                0, 0
-            ]),
-            FaultKind::Bool,
-            24
-        )
-    );
-    // bytes left over
-    assert!(rt;
-        is_bad(
-            next_message(&[
-                108, 5, 0, 1, 2, 0, 0, 0, 1, 0, 0, 0, 7, 0, 0, 0, 8, 1, 103, 0, 1, 121, 0, 0, 1, 2
-            ]),
-            FaultKind::Length,
-            25
-        )
-    );
-    // a body without a signature
-    assert!(rt;
-        is_bad(
-            next_message(&[108, 5, 0, 1, 1, 0, 0, 0, 1, 0, 0, 0, 0, 0, 0, 0, 1]),
-            FaultKind::Length,
-            16
-        )
-    );
-    // a body that ends too soon
-    assert!(rt;
-        is_bad(
-            next_message(&[
-                108, 5, 0, 1, 4, 0, 0, 0, 1, 0, 0, 0, 8, 0, 0, 0, 8, 1, 103, 0, 2, 117, 117, 0, 0,
-                0, 0, 0
-            ]),
-            FaultKind::Length,
-            28
-        )
-    );
-    // padding that is cut off
-    assert!(rt;
-        is_bad(
-            next_message(&[
-                108, 5, 0, 1, 1, 0, 0, 0, 1, 0, 0, 0, 8, 0, 0, 0, 8, 1, 103, 0, 2, 121, 117, 0, 1
-            ]),
-            FaultKind::Length,
-            28
-        )
-    );
-    // a REPLY_SERIAL of 0
-    assert!(rt;
-        is_bad(
-            next_message(&[
-                108, 2, 0, 1, 0, 0, 0, 0, 1, 0, 0, 0, 8, 0, 0, 0, 5, 1, 117, 0, 0, 0, 0, 0
-            ]),
-            FaultKind::Fields,
-            16
-        )
-    );
-    // a return without REPLY_SERIAL
-    assert!(rt;
-        is_bad(
-            next_message(&[108, 2, 0, 1, 0, 0, 0, 0, 1, 0, 0, 0, 0, 0, 0, 0]),
-            FaultKind::Fields,
-            12
-        )
-    );
-    // an error without ERROR_NAME
-    assert!(rt;
-        is_bad(
-            next_message(&[
-                108, 3, 0, 1, 0, 0, 0, 0, 1, 0, 0, 0, 8, 0, 0, 0, 5, 1, 117, 0, 1, 0, 0, 0
-            ]),
-            FaultKind::Fields,
-            12
-        )
-    );
-    // a signal without INTERFACE
-    assert!(rt;
-        is_bad(
-            next_message(&[
-                108, 4, 0, 1, 0, 0, 0, 0, 1, 0, 0, 0, 26, 0, 0, 0, 1, 1, 111, 0, 1, 0, 0, 0, 47, 0,
-                0, 0, 0, 0, 0, 0, 3, 1, 115, 0, 1, 0, 0, 0, 77, 0, 0, 0, 0, 0, 0, 0
-            ]),
-            FaultKind::Fields,
-            12
-        )
-    );
-    // 65 variants
-    assert!(rt;
-        is_bad(
-            next_message(&[
-                108, 5, 0, 1, 196, 0, 0, 0, 1, 0, 0, 0, 7, 0, 0, 0, 8, 1, 103, 0, 1, 118, 0, 0, 1,
-                118, 0, 1, 118, 0, 1, 118, 0, 1, 118, 0, 1, 118, 0, 1, 118, 0, 1, 118, 0, 1, 118,
-                0, 1, 118, 0, 1, 118, 0, 1, 118, 0, 1, 118, 0, 1, 118, 0, 1, 118, 0, 1, 118, 0, 1,
-                118, 0, 1, 118, 0, 1, 118, 0, 1, 118, 0, 1, 118, 0, 1, 118, 0, 1, 118, 0, 1, 118,
-                0, 1, 118, 0, 1, 118, 0, 1, 118, 0, 1, 118, 0, 1, 118, 0, 1, 118, 0, 1, 118, 0, 1,
-                118, 0, 1, 118, 0, 1, 118, 0, 1, 118, 0, 1, 118, 0, 1, 118, 0, 1, 118, 0, 1, 118,
-                0, 1, 118, 0, 1, 118, 0, 1, 118, 0, 1, 118, 0, 1, 118, 0, 1, 118, 0, 1, 118, 0, 1,
-                118, 0, 1, 118, 0, 1, 118, 0, 1, 118, 0, 1, 118, 0, 1, 118, 0, 1, 118, 0, 1, 118,
-                0, 1, 118, 0, 1, 118, 0, 1, 118, 0, 1, 118, 0, 1, 118, 0, 1, 118, 0, 1, 118, 0, 1,
-                118, 0, 1, 118, 0, 1, 118, 0, 1, 118, 0, 1, 121, 0, 5
-            ]),
-            FaultKind::Depth,
-            216
-        )
-    );
-    // an unknown field too deep
-    assert!(rt;
-        is_bad(
-            next_message(&[
-                108, 5, 0, 1, 0, 0, 0, 0, 1, 0, 0, 0, 191, 0, 0, 0, 10, 1, 118, 0, 1, 118, 0, 1,
-                118, 0, 1, 118, 0, 1, 118, 0, 1, 118, 0, 1, 118, 0, 1, 118, 0, 1, 118, 0, 1, 118,
-                0, 1, 118, 0, 1, 118, 0, 1, 118, 0, 1, 118, 0, 1, 118, 0, 1, 118, 0, 1, 118, 0, 1,
-                118, 0, 1, 118, 0, 1, 118, 0, 1, 118, 0, 1, 118, 0, 1, 118, 0, 1, 118, 0, 1, 118,
-                0, 1, 118, 0, 1, 118, 0, 1, 118, 0, 1, 118, 0, 1, 118, 0, 1, 118, 0, 1, 118, 0, 1,
-                118, 0, 1, 118, 0, 1, 118, 0, 1, 118, 0, 1, 118, 0, 1, 118, 0, 1, 118, 0, 1, 118,
-                0, 1, 118, 0, 1, 118, 0, 1, 118, 0, 1, 118, 0, 1, 118, 0, 1, 118, 0, 1, 118, 0, 1,
-                118, 0, 1, 118, 0, 1, 118, 0, 1, 118, 0, 1, 118, 0, 1, 118, 0, 1, 118, 0, 1, 118,
-                0, 1, 118, 0, 1, 118, 0, 1, 118, 0, 1, 118, 0, 1, 118, 0, 1, 118, 0, 1, 118, 0, 1,
-                121, 0, 5, 0
-            ]),
-            FaultKind::Depth,
-            203
-        )
-    );
+    for (shows, bytes, kind, place) in SMALL_FAULTS {
+        assert!(rt; is_bad(next_message(bytes), kind, place), "{shows}");
+    }
 }
 
-/// Small messages without a fault.
+/// Small messages without a fault: what they show, the bytes, and how many they are.
+const SMALL_MESSAGES: [(&str, &[u8], usize); 5] = [
+    (
+        "64 variants",
+        &[
+            108, 5, 0, 1, 193, 0, 0, 0, 1, 0, 0, 0, 7, 0, 0, 0, 8, 1, 103, 0, 1, 118, 0, 0, 1, 118,
+            0, 1, 118, 0, 1, 118, 0, 1, 118, 0, 1, 118, 0, 1, 118, 0, 1, 118, 0, 1, 118, 0, 1, 118,
+            0, 1, 118, 0, 1, 118, 0, 1, 118, 0, 1, 118, 0, 1, 118, 0, 1, 118, 0, 1, 118, 0, 1, 118,
+            0, 1, 118, 0, 1, 118, 0, 1, 118, 0, 1, 118, 0, 1, 118, 0, 1, 118, 0, 1, 118, 0, 1, 118,
+            0, 1, 118, 0, 1, 118, 0, 1, 118, 0, 1, 118, 0, 1, 118, 0, 1, 118, 0, 1, 118, 0, 1, 118,
+            0, 1, 118, 0, 1, 118, 0, 1, 118, 0, 1, 118, 0, 1, 118, 0, 1, 118, 0, 1, 118, 0, 1, 118,
+            0, 1, 118, 0, 1, 118, 0, 1, 118, 0, 1, 118, 0, 1, 118, 0, 1, 118, 0, 1, 118, 0, 1, 118,
+            0, 1, 118, 0, 1, 118, 0, 1, 118, 0, 1, 118, 0, 1, 118, 0, 1, 118, 0, 1, 118, 0, 1, 118,
+            0, 1, 118, 0, 1, 118, 0, 1, 118, 0, 1, 118, 0, 1, 118, 0, 1, 118, 0, 1, 121, 0, 5,
+        ],
+        217,
+    ),
+    (
+        "unknown fields may come twice",
+        &[
+            108, 5, 0, 1, 0, 0, 0, 0, 1, 0, 0, 0, 13, 0, 0, 0, 10, 1, 121, 0, 1, 0, 0, 0, 10, 1,
+            121, 0, 2, 0, 0, 0,
+        ],
+        32,
+    ),
+    (
+        "an unknown field as deep as may be",
+        &[
+            108, 5, 0, 1, 0, 0, 0, 0, 1, 0, 0, 0, 188, 0, 0, 0, 10, 1, 118, 0, 1, 118, 0, 1, 118,
+            0, 1, 118, 0, 1, 118, 0, 1, 118, 0, 1, 118, 0, 1, 118, 0, 1, 118, 0, 1, 118, 0, 1, 118,
+            0, 1, 118, 0, 1, 118, 0, 1, 118, 0, 1, 118, 0, 1, 118, 0, 1, 118, 0, 1, 118, 0, 1, 118,
+            0, 1, 118, 0, 1, 118, 0, 1, 118, 0, 1, 118, 0, 1, 118, 0, 1, 118, 0, 1, 118, 0, 1, 118,
+            0, 1, 118, 0, 1, 118, 0, 1, 118, 0, 1, 118, 0, 1, 118, 0, 1, 118, 0, 1, 118, 0, 1, 118,
+            0, 1, 118, 0, 1, 118, 0, 1, 118, 0, 1, 118, 0, 1, 118, 0, 1, 118, 0, 1, 118, 0, 1, 118,
+            0, 1, 118, 0, 1, 118, 0, 1, 118, 0, 1, 118, 0, 1, 118, 0, 1, 118, 0, 1, 118, 0, 1, 118,
+            0, 1, 118, 0, 1, 118, 0, 1, 118, 0, 1, 118, 0, 1, 118, 0, 1, 118, 0, 1, 118, 0, 1, 118,
+            0, 1, 118, 0, 1, 118, 0, 1, 121, 0, 5, 0, 0, 0, 0,
+        ],
+        208,
+    ),
+    (
+        "an empty array with its padding",
+        &[
+            108, 5, 0, 1, 8, 0, 0, 0, 1, 0, 0, 0, 8, 0, 0, 0, 8, 1, 103, 0, 2, 97, 116, 0, 0, 0, 0,
+            0, 0, 0, 0, 0,
+        ],
+        32,
+    ),
+    (
+        "all basic types",
+        &[
+            108, 5, 0, 1, 72, 0, 0, 0, 1, 0, 0, 0, 19, 0, 0, 0, 8, 1, 103, 0, 13, 121, 98, 110,
+            113, 105, 117, 120, 116, 100, 115, 111, 103, 104, 0, 0, 0, 0, 0, 0, 5, 0, 0, 0, 1, 0,
+            0, 0, 254, 255, 3, 0, 252, 255, 255, 255, 5, 0, 0, 0, 0, 0, 0, 0, 250, 255, 255, 255,
+            255, 255, 255, 255, 7, 0, 0, 0, 0, 0, 0, 0, 0, 0, 0, 0, 0, 0, 248, 63, 2, 0, 0, 0, 104,
+            105, 0, 0, 2, 0, 0, 0, 47, 97, 0, 2, 97, 117, 0, 0, 9, 0, 0, 0,
+        ],
+        112,
+    ),
+];
+
 #[test]
 fn small_messages(rt: HostRuntime) {
-    // 64 variants
-    assert!(rt;
-        is_whole(
-            next_message(&[
-                108, 5, 0, 1, 193, 0, 0, 0, 1, 0, 0, 0, 7, 0, 0, 0, 8, 1, 103, 0, 1, 118, 0, 0, 1,
-                118, 0, 1, 118, 0, 1, 118, 0, 1, 118, 0, 1, 118, 0, 1, 118, 0, 1, 118, 0, 1, 118,
-                0, 1, 118, 0, 1, 118, 0, 1, 118, 0, 1, 118, 0, 1, 118, 0, 1, 118, 0, 1, 118, 0, 1,
-                118, 0, 1, 118, 0, 1, 118, 0, 1, 118, 0, 1, 118, 0, 1, 118, 0, 1, 118, 0, 1, 118,
-                0, 1, 118, 0, 1, 118, 0, 1, 118, 0, 1, 118, 0, 1, 118, 0, 1, 118, 0, 1, 118, 0, 1,
-                118, 0, 1, 118, 0, 1, 118, 0, 1, 118, 0, 1, 118, 0, 1, 118, 0, 1, 118, 0, 1, 118,
-                0, 1, 118, 0, 1, 118, 0, 1, 118, 0, 1, 118, 0, 1, 118, 0, 1, 118, 0, 1, 118, 0, 1,
-                118, 0, 1, 118, 0, 1, 118, 0, 1, 118, 0, 1, 118, 0, 1, 118, 0, 1, 118, 0, 1, 118,
-                0, 1, 118, 0, 1, 118, 0, 1, 118, 0, 1, 118, 0, 1, 118, 0, 1, 118, 0, 1, 118, 0, 1,
-                118, 0, 1, 118, 0, 1, 118, 0, 1, 121, 0, 5
-            ]),
-            217
-        )
-    );
-    // unknown fields may come twice
-    assert!(rt;
-        is_whole(
-            next_message(&[
-                108, 5, 0, 1, 0, 0, 0, 0, 1, 0, 0, 0, 13, 0, 0, 0, 10, 1, 121, 0, 1, 0, 0, 0, 10,
-                1, 121, 0, 2, 0, 0, 0
-            ]),
-            32
-        )
-    );
-    // an unknown field as deep as may be
-    assert!(rt;
-        is_whole(
-            next_message(&[
-                108, 5, 0, 1, 0, 0, 0, 0, 1, 0, 0, 0, 188, 0, 0, 0, 10, 1, 118, 0, 1, 118, 0, 1,
-                118, 0, 1, 118, 0, 1, 118, 0, 1, 118, 0, 1, 118, 0, 1, 118, 0, 1, 118, 0, 1, 118,
-                0, 1, 118, 0, 1, 118, 0, 1, 118, 0, 1, 118, 0, 1, 118, 0, 1, 118, 0, 1, 118, 0, 1,
-                118, 0, 1, 118, 0, 1, 118, 0, 1, 118, 0, 1, 118, 0, 1, 118, 0, 1, 118, 0, 1, 118,
-                0, 1, 118, 0, 1, 118, 0, 1, 118, 0, 1, 118, 0, 1, 118, 0, 1, 118, 0, 1, 118, 0, 1,
-                118, 0, 1, 118, 0, 1, 118, 0, 1, 118, 0, 1, 118, 0, 1, 118, 0, 1, 118, 0, 1, 118,
-                0, 1, 118, 0, 1, 118, 0, 1, 118, 0, 1, 118, 0, 1, 118, 0, 1, 118, 0, 1, 118, 0, 1,
-                118, 0, 1, 118, 0, 1, 118, 0, 1, 118, 0, 1, 118, 0, 1, 118, 0, 1, 118, 0, 1, 118,
-                0, 1, 118, 0, 1, 118, 0, 1, 118, 0, 1, 118, 0, 1, 118, 0, 1, 118, 0, 1, 121, 0, 5,
-                0, 0, 0, 0
-            ]),
-            208
-        )
-    );
-    // an empty array with its padding
-    assert!(rt;
-        is_whole(
-            next_message(&[
-                108, 5, 0, 1, 8, 0, 0, 0, 1, 0, 0, 0, 8, 0, 0, 0, 8, 1, 103, 0, 2, 97, 116, 0, 0,
-                0, 0, 0, 0, 0, 0, 0
-            ]),
-            32
-        )
-    );
-    // all basic types
-    assert!(rt;
-        is_whole(
-            next_message(&[
-                108, 5, 0, 1, 72, 0, 0, 0, 1, 0, 0, 0, 19, 0, 0, 0, 8, 1, 103, 0, 13, 121, 98, 110,
-                113, 105, 117, 120, 116, 100, 115, 111, 103, 104, 0, 0, 0, 0, 0, 0, 5, 0, 0, 0, 1,
-                0, 0, 0, 254, 255, 3, 0, 252, 255, 255, 255, 5, 0, 0, 0, 0, 0, 0, 0, 250, 255, 255,
-                255, 255, 255, 255, 255, 7, 0, 0, 0, 0, 0, 0, 0, 0, 0, 0, 0, 0, 0, 248, 63, 2, 0,
-                0, 0, 104, 105, 0, 0, 2, 0, 0, 0, 47, 97, 0, 2, 97, 117, 0, 0, 9, 0, 0, 0
-            ]),
-            112
-        )
-    );
+    for (shows, bytes, length) in SMALL_MESSAGES {
+        assert!(rt; is_whole(next_message(bytes), length), "{shows}");
+    }
 }
 
-/// An empty return is written, and its bytes are read again with bytes behind them.
-#[test]
-fn empty_return_is_written(rt: HostRuntime) -> Result<(), Fail> {
-    let alloc = rt.alloc();
+/// Whether the bytes are these, and are read as one message of this length.
+fn is_written(bytes: &[u8], wanted: &[u8], length: usize) -> bool {
+    bytes == wanted && is_whole(next_message(bytes), length)
+}
+
+/// The bytes of an empty return to the serial 7.
+fn empty_return_bytes(alloc: Global) -> Result<ByteList, NoMemory> {
     let body = ValueList::new(alloc);
     let out = WireOut {
         kind: 2,
@@ -473,12 +457,17 @@ fn empty_return_is_written(rt: HostRuntime) -> Result<(), Fail> {
         },
         body,
     };
-    let bytes = write_message(alloc, &out, 1)?;
+    write_message(alloc, &out, 1)
+}
+
+/// An empty return is written, and its bytes are read again with bytes behind them.
+#[test]
+fn empty_return_is_written(rt: HostRuntime) -> Result<(), Fail> {
+    let bytes = empty_return_bytes(rt.alloc())?;
     let wanted = [
         108, 2, 1, 1, 0, 0, 0, 0, 1, 0, 0, 0, 8, 0, 0, 0, 5, 1, 117, 0, 7, 0, 0, 0,
     ];
-    assert!(rt; bytes.as_slice() == wanted.as_slice());
-    assert!(rt; is_whole(next_message(bytes.as_slice()), 24));
+    assert!(rt; is_written(bytes.as_slice(), &wanted, 24));
     Ok(())
 }
 
@@ -519,14 +508,16 @@ fn answer_body(alloc: Global, of: &[u8], key: &[u8], mapped: &[u8]) -> Result<Va
     Ok(body)
 }
 
-/// The answer to the worked message is written, byte for byte.
-#[test]
-fn worked_answer_is_written(rt: HostRuntime) -> Result<(), Fail> {
-    let alloc = rt.alloc();
+/// How many values the body of the answer to the worked message has, and whether it has the first
+/// and the second.
+fn worked_body(alloc: Global) -> Result<(usize, bool, bool), NoMemory> {
     let body = answer_body(alloc, b"{ss}", b"polkit.decided-by", b"default:any")?;
-    assert_eq!(rt; body.len(), 1);
-    assert!(rt; body.get(0).is_some());
-    assert!(rt; body.get(1).is_none());
+    Ok((body.len(), body.get(0).is_some(), body.get(1).is_some()))
+}
+
+/// The bytes of the answer to the worked message.
+fn worked_answer_bytes(alloc: Global) -> Result<ByteList, NoMemory> {
+    let body = answer_body(alloc, b"{ss}", b"polkit.decided-by", b"default:any")?;
     let out = WireOut {
         kind: 2,
         flags: 1,
@@ -539,14 +530,26 @@ fn worked_answer_is_written(rt: HostRuntime) -> Result<(), Fail> {
         },
         body,
     };
-    let bytes = write_message(alloc, &out, 1)?;
+    write_message(alloc, &out, 1)
+}
+
+/// The body of that answer has one value.
+#[test]
+fn worked_answer_has_one_value(rt: HostRuntime) -> Result<(), Fail> {
+    assert_eq!(rt; worked_body(rt.alloc())?, (1, true, false));
+    Ok(())
+}
+
+/// The answer to the worked message is written, byte for byte.
+#[test]
+fn worked_answer_is_written(rt: HostRuntime) -> Result<(), Fail> {
+    let bytes = worked_answer_bytes(rt.alloc())?;
     let wanted = [
         108, 2, 1, 1, 56, 0, 0, 0, 1, 0, 0, 0, 23, 0, 0, 0, 5, 1, 117, 0, 1, 0, 0, 0, 8, 1, 103, 0,
         9, 40, 98, 98, 97, 123, 115, 115, 125, 41, 0, 0, 1, 0, 0, 0, 0, 0, 0, 0, 40, 0, 0, 0, 0, 0,
         0, 0, 17, 0, 0, 0, 112, 111, 108, 107, 105, 116, 46, 100, 101, 99, 105, 100, 101, 100, 45,
         98, 121, 0, 0, 0, 11, 0, 0, 0, 100, 101, 102, 97, 117, 108, 116, 58, 97, 110, 121, 0,
     ];
-    assert!(rt; bytes.as_slice() == wanted.as_slice());
-    assert!(rt; is_whole(next_message(bytes.as_slice()), 96));
+    assert!(rt; is_written(bytes.as_slice(), &wanted, 96));
     Ok(())
 }

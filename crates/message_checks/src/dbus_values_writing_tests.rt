@@ -1,8 +1,9 @@
 // Object paths, and the sizes of messages before they are written.
 use dbus_values::*;
-use pk_types::Text;
+use pk_types::NoMemory;
 use std::alloc::Global;
-use std::test::*;
+use std::test::Fail;
+use test_values::text;
 
 /// Object paths, and bytes that are none.
 #[test]
@@ -28,39 +29,55 @@ fn object_paths(rt: HostRuntime) {
     }
 }
 
+/// An array of two texts.
+fn two_texts(alloc: Global) -> Result<Value, NoMemory> {
+    let of = text(alloc, "s")?;
+    let mut items = ValueList::new(alloc);
+    items.try_push(Value::Text(text(alloc, "p")?))?;
+    items.try_push(Value::Text(text(alloc, "")?))?;
+    Ok(Value::Array { of, items })
+}
+
+/// A variant of a text.
+fn variant(alloc: Global) -> Result<Value, NoMemory> {
+    let inner = Value::Text(text(alloc, "xyz")?);
+    Ok(Value::Variant(Box::new(alloc, inner)?))
+}
+
 /// A number, a variant of a text, and an array of two texts.
-fn mixed_body(alloc: Global) -> Result<ValueList, Fail> {
-    let mut texts = ValueList::new(alloc);
-    texts.try_push(Value::Text(Text::try_from_bytes(alloc, b"p")?))?;
-    texts.try_push(Value::Text(Text::try_from_bytes(alloc, b"")?))?;
-    let inner = Value::Text(Text::try_from_bytes(alloc, b"xyz")?);
+fn mixed_body(alloc: Global) -> Result<ValueList, NoMemory> {
+    let variant = variant(alloc)?;
+    let texts = two_texts(alloc)?;
     let mut body = ValueList::new(alloc);
     body.try_push(Value::U64(7))?;
-    body.try_push(Value::Variant(Box::new(alloc, inner)?))?;
-    body.try_push(Value::Array {
-        of: Text::try_from_bytes(alloc, b"s")?,
-        items: texts,
-    })?;
+    body.try_push(variant)?;
+    body.try_push(texts)?;
     Ok(body)
 }
 
-/// The length of a call with the signature `tvas`, and of an empty return.
-#[test]
-fn sizes_of_messages(rt: HostRuntime) -> Result<(), Fail> {
-    let alloc = rt.alloc();
+/// The length of a call with the signature `tvas`.
+fn call_size(alloc: Global) -> Result<u64, NoMemory> {
+    let path = text(alloc, "/a/b")?;
+    let interface = text(alloc, "a.bc")?;
+    let member = text(alloc, "Do")?;
+    let body = mixed_body(alloc)?;
     let call = WireOut {
         kind: 1,
         flags: 0,
         fields: HeaderOut {
-            path: Some(Text::try_from_bytes(alloc, b"/a/b")?),
-            interface: Some(Text::try_from_bytes(alloc, b"a.bc")?),
-            member: Some(Text::try_from_bytes(alloc, b"Do")?),
+            path: Some(path),
+            interface: Some(interface),
+            member: Some(member),
             error_name: None,
             reply_serial: None,
         },
-        body: mixed_body(alloc)?,
+        body,
     };
-    assert_eq!(rt; message_size(&call), 117);
+    Ok(message_size(&call))
+}
+
+/// The length of an empty return.
+fn empty_size(alloc: Global) -> u64 {
     let empty = WireOut {
         kind: 2,
         flags: 1,
@@ -73,6 +90,13 @@ fn sizes_of_messages(rt: HostRuntime) -> Result<(), Fail> {
         },
         body: ValueList::new(alloc),
     };
-    assert_eq!(rt; message_size(&empty), 24);
+    message_size(&empty)
+}
+
+/// The length of a call with the signature `tvas`, and of an empty return.
+#[test]
+fn sizes_of_messages(rt: HostRuntime) -> Result<(), Fail> {
+    assert_eq!(rt; call_size(rt.alloc())?, 117);
+    assert_eq!(rt; empty_size(rt.alloc()), 24);
     Ok(())
 }
