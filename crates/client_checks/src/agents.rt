@@ -1,13 +1,14 @@
 // Agents over links in memory: what the authority and the helper's door give, and what comes of it.
-use crate::doors::{Faults, NONE, TwoDoors, joined, link, output, texts, written};
+use crate::doors::{Faults, NONE, TwoDoors, joined, link, output, texts, two_doors, written};
 use crate::messages::Part;
 use dbus_values::FaultKind;
 use link_handshake::ShakeFault;
 use pk_outside::{ByteSink, ListTree, TreeFile};
-use pk_types::{ByteList, List, Text, TextList};
+use pk_types::{ByteList, List, NoMemory, TextList};
 use script_agent::{AgentStatus, script_agent};
 use std::alloc::Global;
 use std::test::Fail;
+use test_values::{one, text};
 
 /// An agent's run.
 #[derive(Clone, Copy)]
@@ -313,18 +314,22 @@ fn stopped() -> &'static [Row] {
     ]
 }
 
+/// A rule file.
+fn rule_file(alloc: Global, rules: &str) -> Result<TreeFile, NoMemory> {
+    let path = text(alloc, "/rules")?;
+    let bytes = ByteList::try_from_slice(alloc, rules.as_bytes())?;
+    Ok(TreeFile { path, bytes })
+}
+
 /// A tree with a rule file.
-fn tree(alloc: Global, rules: &str, fault: u64) -> Result<ListTree, Fail> {
-    let mut files = List::new(alloc);
-    files.try_push(TreeFile {
-        path: Text::try_from_bytes(alloc, b"/rules")?,
-        bytes: ByteList::try_from_slice(alloc, rules.as_bytes())?,
-    })?;
-    Ok(ListTree::new(alloc, files, List::new(alloc), vec![in alloc; fault]?))
+fn tree(alloc: Global, rules: &str, fault: u64) -> Result<ListTree, NoMemory> {
+    let files = one(alloc, rule_file(alloc, rules)?)?;
+    let failing = vec![in alloc; fault]?;
+    Ok(ListTree::new(alloc, files, List::new(alloc), failing))
 }
 
 /// The words of an agent.
-fn words(alloc: Global, row: &Row) -> Result<TextList, Fail> {
+fn words(alloc: Global, row: &Row) -> Result<TextList, NoMemory> {
     texts(
         alloc,
         &[
@@ -342,31 +347,33 @@ fn words(alloc: Global, row: &Row) -> Result<TextList, Fail> {
     )
 }
 
-/// The run of an agent.
-fn run(alloc: Global, row: &Row) -> Result<(AgentStatus, ByteSink, TwoDoors), Fail> {
-    let words = words(alloc, row)?;
-    let mut station = TwoDoors {
-        door: Some(link(alloc, row.door, 50, row.faults)?),
-        helper: Some(link(alloc, row.helper, 50, NONE)?),
-        first: None,
-        second: None,
-        faults: 0,
-    };
-    let mut tree = tree(alloc, row.rules, row.faults.tree)?;
-    let mut output = output(alloc, row.faults.output)?;
-    let status = script_agent(
-        alloc,
-        words.as_slice(),
-        &mut tree,
-        &mut station,
-        &mut output,
-    );
-    Ok((status, output, station))
+/// A station with the links of a row.
+fn station(alloc: Global, row: &Row) -> Result<TwoDoors, NoMemory> {
+    let door = link(alloc, row.door, 50, row.faults)?;
+    let helper = link(alloc, row.helper, 50, NONE)?;
+    Ok(two_doors(door, Some(helper)))
 }
 
-/// In what a run differs from its row, if it does.
-fn difference(alloc: Global, row: &Row) -> Result<&'static str, Fail> {
-    let (status, output, station) = run(alloc, row)?;
+/// The run of an agent at a station.
+fn run(
+    alloc: Global,
+    row: &Row,
+    station: &mut TwoDoors,
+    output: &mut ByteSink,
+) -> Result<AgentStatus, NoMemory> {
+    let words = words(alloc, row)?;
+    let mut tree = tree(alloc, row.rules, row.faults.tree)?;
+    Ok(script_agent(alloc, words.as_slice(), &mut tree, station, output))
+}
+
+/// In what the end of a run, what it printed and what it sent differ from its row, if they do.
+fn told_apart(
+    alloc: Global,
+    row: &Row,
+    status: AgentStatus,
+    printed: &[u8],
+    station: &TwoDoors,
+) -> Result<&'static str, NoMemory> {
     let sent = joined(alloc, row.sent)?;
     let asked = joined(alloc, row.asked)?;
     let failed = u64::from(row.status == AgentStatus::StationFault);
@@ -374,7 +381,7 @@ fn difference(alloc: Global, row: &Row) -> Result<&'static str, Fail> {
         "status"
     } else if status.code() != row.code {
         "code"
-    } else if output.bytes() != row.printed.as_bytes() {
+    } else if printed != row.printed.as_bytes() {
         "printed"
     } else if written(&station.first) != sent.as_slice() {
         "sent"
@@ -385,6 +392,14 @@ fn difference(alloc: Global, row: &Row) -> Result<&'static str, Fail> {
     } else {
         ""
     })
+}
+
+/// In what a run differs from its row, if it does.
+fn difference(alloc: Global, row: &Row) -> Result<&'static str, NoMemory> {
+    let mut output = output(alloc, row.faults.output)?;
+    let mut station = station(alloc, row)?;
+    let status = run(alloc, row, &mut station, &mut output)?;
+    told_apart(alloc, row, status, output.bytes(), &station)
 }
 
 #[test]

@@ -1,9 +1,10 @@
 // Checks over a link in memory: what the server gives, and what comes of it.
-use crate::doors::{Faults, NONE, TwoDoors, joined, link, output, texts, written};
+use crate::doors::{Faults, NONE, TwoDoors, joined, link, output, texts, two_doors, written};
 use crate::messages::Part;
 use dbus_values::FaultKind;
 use link_handshake::ShakeFault;
 use pk_outside::ByteSink;
+use pk_types::NoMemory;
 use pkcheck_tool::{CheckStatus, pkcheck};
 use std::alloc::Global;
 use std::test::Fail;
@@ -241,31 +242,38 @@ fn stopped() -> &'static [Row] {
     ]
 }
 
-/// A check, whose link gives a byte in each read.
-fn check(alloc: Global, row: &Row) -> Result<(CheckStatus, ByteSink, TwoDoors), Fail> {
-    let words = texts(alloc, row.words)?;
-    let mut station = TwoDoors {
-        door: Some(link(alloc, row.server, 1, row.faults)?),
-        helper: None,
-        first: None,
-        second: None,
-        faults: 0,
-    };
-    let mut output = output(alloc, row.faults.output)?;
-    let status = pkcheck(alloc, words.as_slice(), &mut station, &mut output);
-    Ok((status, output, station))
+/// A station with the link of a row, which gives a byte in each read.
+fn station(alloc: Global, row: &Row) -> Result<TwoDoors, NoMemory> {
+    let door = link(alloc, row.server, 1, row.faults)?;
+    Ok(two_doors(door, None))
 }
 
-/// In what a check differs from its row, if it does.
-fn difference(alloc: Global, row: &Row) -> Result<&'static str, Fail> {
-    let (status, output, station) = check(alloc, row)?;
+/// A check at a station.
+fn check(
+    alloc: Global,
+    row: &Row,
+    station: &mut TwoDoors,
+    output: &mut ByteSink,
+) -> Result<CheckStatus, NoMemory> {
+    let words = texts(alloc, row.words)?;
+    Ok(pkcheck(alloc, words.as_slice(), station, output))
+}
+
+/// In what the end of a check, its lines and what it sent differ from its row, if they do.
+fn told_apart(
+    alloc: Global,
+    row: &Row,
+    status: CheckStatus,
+    lines: &[u8],
+    station: &TwoDoors,
+) -> Result<&'static str, NoMemory> {
     let sent = joined(alloc, row.sent)?;
     let failed = u64::from(row.status == CheckStatus::StationFault);
     Ok(if status != row.status {
         "status"
     } else if status.code() != row.code {
         "code"
-    } else if output.bytes() != row.lines.as_bytes() {
+    } else if lines != row.lines.as_bytes() {
         "lines"
     } else if written(&station.first) != sent.as_slice() {
         "sent"
@@ -274,6 +282,14 @@ fn difference(alloc: Global, row: &Row) -> Result<&'static str, Fail> {
     } else {
         ""
     })
+}
+
+/// In what a check differs from its row, if it does.
+fn difference(alloc: Global, row: &Row) -> Result<&'static str, NoMemory> {
+    let mut output = output(alloc, row.faults.output)?;
+    let mut station = station(alloc, row)?;
+    let status = check(alloc, row, &mut station, &mut output)?;
+    told_apart(alloc, row, status, output.bytes(), &station)
 }
 
 #[test]

@@ -7,9 +7,9 @@ ghost use Rattle.pk_outside.specs.Stations.{has_fault};
 use crate::messages::Part;
 use empty_station::{EmptyClock, EmptyDoor, EmptySalt};
 use pk_outside::{ByteLink, ByteSink, ByteSource, Ends, Station, StationRefused};
-use pk_types::{List, Text, TextList};
+use pk_types::{List, NoMemory, Text, TextList};
 use std::alloc::Global;
-use std::test::Fail;
+use test_values::text;
 
 /// The numbers of the calls that are to fail: of the reads and writes of the first link, of the writes
 /// of the output, and of the reads of the tree. None has the number 0.
@@ -112,7 +112,7 @@ pub fn written(back: &Option<Ends<ByteLink>>) -> &[u8] {
 }
 
 /// Parts behind one another.
-pub fn joined(alloc: Global, parts: &[Part]) -> Result<Vec<u8>, Fail> {
+pub fn joined(alloc: Global, parts: &[Part]) -> Result<Vec<u8>, NoMemory> {
     let mut bytes = Vec::new(alloc);
     for part in parts {
         bytes.extend_from_slice(part.bytes())?;
@@ -121,28 +121,48 @@ pub fn joined(alloc: Global, parts: &[Part]) -> Result<Vec<u8>, Fail> {
 }
 
 /// An output, of which a write fails.
-pub fn output(alloc: Global, fault: u64) -> Result<ByteSink, Fail> {
-    Ok(ByteSink::new(alloc, ROOM, ROOM, vec![in alloc; fault]?)?)
+pub fn output(alloc: Global, fault: u64) -> Result<ByteSink, NoMemory> {
+    let failing = vec![in alloc; fault]?;
+    ByteSink::new(alloc, ROOM, ROOM, failing)
+}
+
+/// A source of these bytes, at most so many in a read, of which a read fails.
+fn source(alloc: Global, given: &[u8], piece: usize, fault: u64) -> Result<ByteSource, NoMemory> {
+    let (given, _) = given.split_at(given.len().min(ROOM));
+    let failing = vec![in alloc; fault]?;
+    let bytes = given.to_vec(alloc)?;
+    Ok(ByteSource::new(bytes, piece.max(1), failing))
 }
 
 /// A link that gives these bytes, at most so many in a read.
-pub fn link(alloc: Global, given: &[Part], piece: usize, faults: Faults) -> Result<ByteLink, Fail> {
+pub fn link(
+    alloc: Global,
+    given: &[Part],
+    piece: usize,
+    faults: Faults,
+) -> Result<ByteLink, NoMemory> {
     let given = joined(alloc, given)?;
-    let (given, _) = given.as_slice().split_at(given.len().min(ROOM));
-    let source = ByteSource::new(
-        given.to_vec(alloc)?,
-        piece.max(1),
-        vec![in alloc; faults.read]?,
-    );
-    let sink = ByteSink::new(alloc, ROOM, ROOM, vec![in alloc; faults.write]?)?;
+    let source = source(alloc, given.as_slice(), piece, faults.read)?;
+    let sink = output(alloc, faults.write)?;
     Ok(ByteLink::new(source, sink))
 }
 
+/// A station with these links, of which the second may lack.
+pub fn two_doors(door: ByteLink, helper: Option<ByteLink>) -> TwoDoors {
+    TwoDoors {
+        door: Some(door),
+        helper,
+        first: None,
+        second: None,
+        faults: 0,
+    }
+}
+
 /// Words as texts.
-pub fn texts(alloc: Global, words: &[&str]) -> Result<TextList, Fail> {
+pub fn texts(alloc: Global, words: &[&str]) -> Result<TextList, NoMemory> {
     let mut texts = List::new(alloc);
     for word in words {
-        texts.try_push(Text::try_from_bytes(alloc, word.as_bytes())?)?;
+        texts.try_push(text(alloc, word)?)?;
     }
     Ok(texts)
 }

@@ -2,9 +2,9 @@
 use crate::doors::texts;
 use agent_words::AgentPlan;
 use check_words::CheckPlan;
-use pk_types::Text;
+use pk_types::{NoMemory, Text};
 use program_words::{ProgramTexts, WordsRefused, read_texts};
-use std::alloc::Global;
+use std::alloc::{AllocError, Global};
 use std::str;
 use std::test::Fail;
 
@@ -259,13 +259,13 @@ fn shown(text: &Text) -> &str {
 }
 
 /// What is wrong, in its first line.
-fn first_line(alloc: Global, fault: &str) -> Result<String, Fail> {
-    Ok(String::from_str(alloc, fault.lines().next().unwrap_or(""))?)
+fn first_line(alloc: Global, fault: &str) -> Result<String, AllocError> {
+    String::from_str(alloc, fault.lines().next().unwrap_or(""))
 }
 
 /// What a check is asked.
-fn shown_check(alloc: Global, plan: &CheckPlan) -> Result<String, Fail> {
-    Ok(format!(in alloc;
+fn shown_check(alloc: Global, plan: &CheckPlan) -> Result<String, AllocError> {
+    format!(in alloc;
         "{} {} {} {} {} {}",
         plan.uid,
         shown(&plan.path),
@@ -273,12 +273,12 @@ fn shown_check(alloc: Global, plan: &CheckPlan) -> Result<String, Fail> {
         plan.pid,
         plan.start,
         plan.ask
-    )?)
+    )
 }
 
 /// What an agent is asked.
-fn shown_agent(alloc: Global, plan: &AgentPlan) -> Result<String, Fail> {
-    Ok(format!(in alloc;
+fn shown_agent(alloc: Global, plan: &AgentPlan) -> Result<String, AllocError> {
+    format!(in alloc;
         "{} {} {} {} {} {}",
         plan.uid,
         shown(&plan.path),
@@ -286,43 +286,69 @@ fn shown_agent(alloc: Global, plan: &AgentPlan) -> Result<String, Fail> {
         shown(&plan.session),
         shown(&plan.rules),
         plan.count
-    )?)
+    )
+}
+
+/// What is wrong with the words of a check.
+fn fault_of_check(alloc: Global, fault: &check_words::WordsFault) -> Result<String, AllocError> {
+    let told = format!(in alloc; "{fault}")?;
+    first_line(alloc, told.as_str())
+}
+
+/// What is wrong with the words of an agent.
+fn fault_of_agent(alloc: Global, fault: &agent_words::WordsFault) -> Result<String, AllocError> {
+    match fault {
+        agent_words::WordsFault::Command(fault) => {
+            let told = format!(in alloc; "{fault}")?;
+            first_line(alloc, told.as_str())
+        }
+        agent_words::WordsFault::Value => first_line(alloc, "value"),
+        agent_words::WordsFault::NoMemory => first_line(alloc, "no memory"),
+    }
 }
 
 /// What the words of `pkcheck` come to.
-fn told_check(alloc: Global, words: &[&str]) -> Result<String, Fail> {
-    let words = texts(alloc, words)?;
-    match check_words::read_words(alloc, words.as_slice()) {
+fn told_check(alloc: Global, words: &[Text]) -> Result<String, AllocError> {
+    match check_words::read_words(alloc, words) {
         Ok(plan) => shown_check(alloc, &plan),
-        Err(fault) => first_line(alloc, format!(in alloc; "{fault}")?.as_str()),
+        Err(fault) => fault_of_check(alloc, &fault),
     }
 }
 
 /// What the words of the agent come to.
-fn told_agent(alloc: Global, words: &[&str]) -> Result<String, Fail> {
-    let words = texts(alloc, words)?;
-    match agent_words::read_words(alloc, words.as_slice()) {
+fn told_agent(alloc: Global, words: &[Text]) -> Result<String, AllocError> {
+    match agent_words::read_words(alloc, words) {
         Ok(plan) => shown_agent(alloc, &plan),
-        Err(agent_words::WordsFault::Command(fault)) => {
-            first_line(alloc, format!(in alloc; "{fault}")?.as_str())
-        }
-        Err(agent_words::WordsFault::Value) => first_line(alloc, "value"),
-        Err(agent_words::WordsFault::NoMemory) => first_line(alloc, "no memory"),
+        Err(fault) => fault_of_agent(alloc, &fault),
     }
+}
+
+/// Whether the words of `pkcheck` come to what their row says.
+fn is_check_told(alloc: Global, row: &Row) -> Result<bool, NoMemory> {
+    let words = texts(alloc, row.0)?;
+    let told = told_check(alloc, words.as_slice())?;
+    Ok(told.as_str() == row.1)
+}
+
+/// Whether the words of the agent come to what their row says.
+fn is_agent_told(alloc: Global, row: &Row) -> Result<bool, NoMemory> {
+    let words = texts(alloc, row.0)?;
+    let told = told_agent(alloc, words.as_slice())?;
+    Ok(told.as_str() == row.1)
 }
 
 #[test]
 fn words_ask_checks(rt: HostRuntime) -> Result<(), Fail> {
-    for &(words, want) in checks() {
-        assert_eq!(rt; told_check(rt.alloc(), words)?.as_str(), want, "{words:?}");
+    for row in checks() {
+        assert!(rt; is_check_told(rt.alloc(), row)?, "{:?}", row.0);
     }
     Ok(())
 }
 
 #[test]
 fn words_ask_agents(rt: HostRuntime) -> Result<(), Fail> {
-    for &(words, want) in agents() {
-        assert_eq!(rt; told_agent(rt.alloc(), words)?.as_str(), want, "{words:?}");
+    for row in agents() {
+        assert!(rt; is_agent_told(rt.alloc(), row)?, "{:?}", row.0);
     }
     Ok(())
 }
@@ -333,17 +359,23 @@ const TEXTS: ProgramTexts = ProgramTexts {
     version: "some 1\n",
 };
 
-/// What a program tells that is started with these words.
-fn told_program(alloc: Global, words: &[&str]) -> Result<&'static str, Fail> {
+/// Words as a program is given them.
+fn strings(alloc: Global, words: &[&str]) -> Result<Vec<String>, AllocError> {
     let mut given = Vec::new(alloc);
     for word in words {
         given.push(String::from_str(alloc, word)?)?;
     }
-    match read_texts(alloc, given.as_slice()) {
-        Ok(words) => Ok(TEXTS.asked_by(words.as_slice()).unwrap_or("nothing")),
-        Err(WordsRefused::NotText) => Ok(TEXTS.usage()),
-        Err(WordsRefused::NoMemory) => Ok("no memory"),
-    }
+    Ok(given)
+}
+
+/// What a program tells that is started with these words.
+fn told_program(alloc: Global, words: &[&str]) -> Result<&'static str, NoMemory> {
+    let given = strings(alloc, words)?;
+    Ok(match read_texts(alloc, given.as_slice()) {
+        Ok(words) => TEXTS.asked_by(words.as_slice()).unwrap_or("nothing"),
+        Err(WordsRefused::NotText) => TEXTS.usage(),
+        Err(WordsRefused::NoMemory) => "no memory",
+    })
 }
 
 /// Words of any program.
