@@ -1,7 +1,10 @@
 // Scenarios of agents, challenges and temporary authorizations, and what a replay answers.
-use crate::runs::{NO_FAULTS, run};
-use std::alloc::{AllocError, Global};
+use crate::runs::{NO_FAULTS, Wanted, difference};
+use pk_types::NoMemory;
+use std::alloc::Global;
+use std::sync::Wait;
 use std::test::Fail;
+use std::thread::Threads;
 
 /// What a scenario shows, its lines, and the lines of its answers, each in pieces that follow one
 /// another.
@@ -379,7 +382,7 @@ const ROWS: [Row; 31] = [
     ),
 ];
 
-pub fn joined(alloc: Global, pieces: &[&str]) -> Result<Vec<u8>, AllocError> {
+fn joined(alloc: Global, pieces: &[&str]) -> Result<Vec<u8>, NoMemory> {
     let mut text = Vec::new(alloc);
     for piece in pieces {
         text.extend_from_slice(piece.as_bytes())?;
@@ -387,50 +390,82 @@ pub fn joined(alloc: Global, pieces: &[&str]) -> Result<Vec<u8>, AllocError> {
     Ok(text)
 }
 
+/// In what a replay of a row's lines differs first from its answers, if in anything.
+pub fn row_difference<R: Threads + Wait + Sync>(
+    rt: &R,
+    alloc: Global,
+    row: &Row,
+) -> Result<&'static str, NoMemory> {
+    let (_, lines, answers) = *row;
+    let scenario = joined(alloc, lines)?;
+    let answers = joined(alloc, answers)?;
+    let wanted = Wanted::done(answers.as_slice());
+    difference(rt, alloc, &["replay"], &scenario, NO_FAULTS, wanted)
+}
+
 #[test]
 fn agents_are_asked(rt: HostRuntime) -> Result<(), Fail> {
-    let alloc = rt.alloc();
-    for (shows, lines, answers) in ROWS {
-        let scenario = joined(alloc, lines)?;
-        let want = joined(alloc, answers)?;
-        let ended = run(&rt, alloc, &["replay"], scenario.as_slice(), NO_FAULTS)?;
-        assert_eq!(rt; ended.status.as_str(), "Done", "{shows}");
-        assert_eq!(rt; ended.written.as_slice(), want.as_slice(), "{shows}");
+    for row in &ROWS {
+        assert_eq!(rt; row_difference(&rt, rt.alloc(), row)?, "", "{}", row.0);
     }
     Ok(())
 }
 
-/// 65 checks of one connection, and their answers: 64 may wait for their agent.
-#[test]
-fn checks_that_wait_are_limited(rt: HostRuntime) -> Result<(), Fail> {
-    let alloc = rt.alloc();
-    let mut scenario = joined(
-        alloc,
-        &[TWO_USERS, PEERS, "register 4 1 session:s1 /agent\n"],
-    )?;
-    let mut want = joined(alloc, &["4 1 done\n"])?;
-    for k in 1..66u32 {
-        let check = format!(in alloc; "check 1 {k} process:50:7 a.self ask\n")?;
-        scenario.extend_from_slice(check.as_bytes())?;
-        let answer = if k == 65 {
-            String::from_str(alloc, "1 65 error LimitsExceeded too-many-pending\n")?
-        } else {
-            let serial = k + 1;
-            format!(in alloc;
-                "4 begin {serial} {k}-00000000000000000000000000000000 a.self user:1000\n"
-            )?
-        };
-        want.extend_from_slice(answer.as_bytes())?;
+fn push_check(alloc: Global, lines: &mut Vec<u8>, serial: u32) -> Result<(), NoMemory> {
+    let check = format!(in alloc; "check 1 {serial} process:50:7 a.self ask\n")?;
+    lines.extend_from_slice(check.as_bytes())?;
+    Ok(())
+}
+
+/// 65 checks of one connection, and then one of the same user's other connection and one of another
+/// user.
+fn many_checks(alloc: Global) -> Result<Vec<u8>, NoMemory> {
+    let first = [TWO_USERS, PEERS, "register 4 1 session:s1 /agent\n"];
+    let mut lines = joined(alloc, &first)?;
+    for serial in 1..66u32 {
+        push_check(alloc, &mut lines, serial)?;
     }
-    // The limit is the user's over all its connections, and no other user's.
-    scenario.extend_from_slice(
+    lines.extend_from_slice(
         b"check 4 2 process:50:7 a.self ask\ncheck 2 1 process:50:7 a.self ask\n",
     )?;
-    want.extend_from_slice(
-        b"4 2 error LimitsExceeded too-many-pending\n4 begin 67 65-00000000000000000000000000000000 a.self user:1000\n",
+    Ok(lines)
+}
+
+fn push_begin(alloc: Global, lines: &mut Vec<u8>, cookie: u32) -> Result<(), NoMemory> {
+    let serial = cookie.saturating_add(1);
+    let begin = format!(in alloc;
+        "4 begin {serial} {cookie}-00000000000000000000000000000000 a.self user:1000\n"
     )?;
-    let ended = run(&rt, alloc, &["replay"], scenario.as_slice(), NO_FAULTS)?;
-    assert_eq!(rt; ended.status.as_str(), "Done");
-    assert_eq!(rt; ended.written.as_slice(), want.as_slice());
+    lines.extend_from_slice(begin.as_bytes())?;
+    Ok(())
+}
+
+/// The answers to these checks. The limit of 64 is the user's over all its connections, and no other
+/// user's.
+fn many_answers(alloc: Global) -> Result<Vec<u8>, NoMemory> {
+    let mut lines = joined(alloc, &["4 1 done\n"])?;
+    for cookie in 1..65u32 {
+        push_begin(alloc, &mut lines, cookie)?;
+    }
+    lines.extend_from_slice(
+        b"1 65 error LimitsExceeded too-many-pending\n4 2 error LimitsExceeded too-many-pending\n4 begin 67 65-00000000000000000000000000000000 a.self user:1000\n",
+    )?;
+    Ok(lines)
+}
+
+/// In what a replay of these checks differs first from these answers, if in anything.
+fn many_difference<R: Threads + Wait + Sync>(
+    rt: &R,
+    alloc: Global,
+) -> Result<&'static str, NoMemory> {
+    let scenario = many_checks(alloc)?;
+    let answers = many_answers(alloc)?;
+    let wanted = Wanted::done(answers.as_slice());
+    difference(rt, alloc, &["replay"], &scenario, NO_FAULTS, wanted)
+}
+
+#[test]
+fn checks_that_wait_are_limited(rt: HostRuntime) -> Result<(), Fail> {
+    assert_eq!(rt; many_difference(&rt, rt.alloc())?, "");
     Ok(())
 }

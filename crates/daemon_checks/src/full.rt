@@ -1,5 +1,5 @@
 // Journals that are full.
-use crate::runs::{NO_FAULTS, run};
+use crate::runs::{NO_FAULTS, Wanted, difference};
 use std::test::Fail;
 
 /// The limit of entries, a scenario, what is written, the text of the status and its code.
@@ -61,14 +61,14 @@ const ROWS: [Row; 12] = [
 fn full_journals_are_told(rt: HostRuntime) -> Result<(), Fail> {
     for (entries, scenario, answers, status, code) in ROWS {
         let words = ["replay", "--entries", entries];
-        let ended = run(&rt, rt.alloc(), &words, scenario.as_bytes(), NO_FAULTS)?;
-        assert_eq!(rt; ended.status.as_str(), status, "{entries} {scenario}");
-        assert_eq!(rt; ended.code, code, "{entries} {scenario}");
-        assert_eq!(rt;
-            ended.written.as_slice(),
-            answers.as_bytes(),
-            "{entries} {scenario}"
-        );
+        let wanted = Wanted {
+            status,
+            code,
+            written: answers.as_bytes(),
+        };
+        let input = scenario.as_bytes();
+        let differs = difference(&rt, rt.alloc(), &words, input, NO_FAULTS, wanted)?;
+        assert_eq!(rt; differs, "", "{entries} {scenario}");
     }
     Ok(())
 }

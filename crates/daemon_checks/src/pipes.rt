@@ -1,11 +1,12 @@
 // One connection over the input and the output: messages and their answers.
-use crate::runs::{Ended, IoPlan, NO_FAULTS, run_over};
-use pk_outside::{ListTree, TreeDirectory, TreeFile};
-use pk_types::{ByteList, List, Text};
-use std::alloc::{AllocError, Global};
+use crate::runs::{IoPlan, NO_FAULTS, Wanted, difference_over, files, run_over};
+use pk_outside::{ListTree, TreeDirectory};
+use pk_types::{List, NoMemory};
+use std::alloc::Global;
 use std::sync::Wait;
 use std::test::Fail;
 use std::thread::Threads;
+use test_values::{one, text};
 
 /// A call of CheckAuthorization for process 51 with the action `a.yes`, little-endian.
 const LITTLE: [u8; 265] = [
@@ -87,28 +88,22 @@ const FILES: [(&str, &str); 2] = [
     ("/r/tables/processes", "51 8 1000 -\n"),
 ];
 
+/// The directory of the actions.
+fn directory(alloc: Global) -> Result<TreeDirectory, NoMemory> {
+    let path = text(alloc, "/r/usr/share/polkit-1/actions")?;
+    let names = one(alloc, text(alloc, "a.policy")?)?;
+    Ok(TreeDirectory {
+        path,
+        names,
+        unnamed: 0,
+    })
+}
+
 /// The tree of these files, whose calls with these numbers fail.
-fn tree(alloc: Global, files: &[(&str, &str)], failing: Vec<u64>) -> Result<ListTree, Fail> {
-    let mut held = List::new(alloc);
-    for (path, bytes) in files {
-        let path = Text::try_from_bytes(alloc, path.as_bytes())?;
-        let bytes = ByteList::try_from_slice(alloc, bytes.as_bytes()).map_err(|_| AllocError)?;
-        held.try_push(TreeFile { path, bytes })
-            .map_err(|_| AllocError)?;
-    }
-    let mut names = List::new(alloc);
-    names
-        .try_push(Text::try_from_bytes(alloc, b"a.policy")?)
-        .map_err(|_| AllocError)?;
-    let mut directories = List::new(alloc);
-    directories
-        .try_push(TreeDirectory {
-            path: Text::try_from_bytes(alloc, b"/r/usr/share/polkit-1/actions")?,
-            names,
-            unnamed: 0,
-        })
-        .map_err(|_| AllocError)?;
-    Ok(ListTree::new(alloc, held, directories, failing))
+fn tree(alloc: Global, rows: &[(&str, &str)], failing: Vec<u64>) -> Result<ListTree, NoMemory> {
+    let files = files(alloc, rows)?;
+    let directories = one(alloc, directory(alloc)?)?;
+    Ok(ListTree::new(alloc, files, directories, failing))
 }
 
 /// The words of a pipe of this user.
@@ -116,16 +111,18 @@ fn words(uid: &'static str) -> [&'static str; 4] {
     ["pipe", uid, "--root", "/r"]
 }
 
-/// Runs the pipe of this user over these bytes and the files below `/r`.
-fn pipe<R: Threads + Wait + Sync>(
+/// In what a pipe over these bytes and the files below `/r` differs first from what is wanted, if in
+/// anything.
+fn pipe_difference<R: Threads + Wait + Sync>(
     rt: &R,
     alloc: Global,
     words: &[&str],
     input: &[u8],
     plan: IoPlan,
-) -> Result<Ended, Fail> {
+    wanted: Wanted<'_>,
+) -> Result<&'static str, NoMemory> {
     let mut tree = tree(alloc, &FILES, Vec::new(alloc))?;
-    run_over(rt, alloc, &mut tree, words, input, plan)
+    difference_over(rt, alloc, &mut tree, words, input, plan, wanted)
 }
 
 /// The pieces in which the input comes.
@@ -138,10 +135,10 @@ fn pieces(read_piece: usize) -> IoPlan {
 
 #[test]
 fn call_is_answered_in_both_orders(rt: HostRuntime) -> Result<(), Fail> {
-    for call in [LITTLE, BIG] {
-        let ended = pipe(&rt, rt.alloc(), &words("1000"), &call, NO_FAULTS)?;
-        assert_eq!(rt; ended.status.as_str(), "Done");
-        assert_eq!(rt; ended.written.as_slice(), ANSWER.as_slice());
+    for call in [&LITTLE, &BIG] {
+        let wanted = Wanted::done(&ANSWER);
+        let differs = pipe_difference(&rt, rt.alloc(), &words("1000"), call, NO_FAULTS, wanted)?;
+        assert_eq!(rt; differs, "");
     }
     Ok(())
 }
@@ -149,9 +146,10 @@ fn call_is_answered_in_both_orders(rt: HostRuntime) -> Result<(), Fail> {
 #[test]
 fn call_comes_in_pieces_of_any_size(rt: HostRuntime) -> Result<(), Fail> {
     for piece in 1..265usize {
-        let ended = pipe(&rt, rt.alloc(), &words("1000"), &LITTLE, pieces(piece))?;
-        assert_eq!(rt; ended.status.as_str(), "Done");
-        assert_eq!(rt; ended.written.as_slice(), ANSWER.as_slice());
+        let plan = pieces(piece);
+        let wanted = Wanted::done(&ANSWER);
+        let differs = pipe_difference(&rt, rt.alloc(), &words("1000"), &LITTLE, plan, wanted)?;
+        assert_eq!(rt; differs, "", "pieces of {piece}");
     }
     Ok(())
 }
@@ -159,15 +157,14 @@ fn call_comes_in_pieces_of_any_size(rt: HostRuntime) -> Result<(), Fail> {
 #[test]
 fn input_ends_inside_a_message(rt: HostRuntime) -> Result<(), Fail> {
     let (short, _) = LITTLE.split_at(264);
-    let ended = pipe(&rt, rt.alloc(), &words("1000"), short, NO_FAULTS)?;
-    assert_eq!(rt; ended.status.as_str(), "Truncated 264");
-    assert_eq!(rt; ended.code, 6);
-    assert_eq!(rt; ended.written.as_slice(), b"".as_slice());
+    let wanted = Wanted::silent("Truncated 264", 6);
+    let differs = pipe_difference(&rt, rt.alloc(), &words("1000"), short, NO_FAULTS, wanted)?;
+    assert_eq!(rt; differs, "");
     Ok(())
 }
 
 /// Bytes with another one at a place.
-fn with_byte(alloc: Global, bytes: &[u8], at: usize, byte: u8) -> Result<Vec<u8>, Fail> {
+fn with_byte(alloc: Global, bytes: &[u8], at: usize, byte: u8) -> Result<Vec<u8>, NoMemory> {
     let mut other = bytes.to_vec(alloc)?;
     if at < other.len() {
         other[at] = byte;
@@ -175,76 +172,121 @@ fn with_byte(alloc: Global, bytes: &[u8], at: usize, byte: u8) -> Result<Vec<u8>
     Ok(other)
 }
 
+/// In what a pipe over the call with another byte at a place differs first from one that is done and
+/// writes this, if in anything.
+fn changed_difference<R: Threads + Wait + Sync>(
+    rt: &R,
+    alloc: Global,
+    at: usize,
+    byte: u8,
+    written: &[u8],
+) -> Result<&'static str, NoMemory> {
+    let call = with_byte(alloc, &LITTLE, at, byte)?;
+    let wanted = Wanted::done(written);
+    pipe_difference(rt, alloc, &words("1000"), &call, NO_FAULTS, wanted)
+}
+
 #[test]
 fn quiet_call_is_not_answered(rt: HostRuntime) -> Result<(), Fail> {
-    let alloc = rt.alloc();
-    let quiet = with_byte(alloc, &LITTLE, 2, 1)?;
-    let ended = pipe(&rt, alloc, &words("1000"), &quiet, NO_FAULTS)?;
-    assert_eq!(rt; ended.status.as_str(), "Done");
-    assert_eq!(rt; ended.written.as_slice(), b"".as_slice());
+    assert_eq!(rt; changed_difference(&rt, rt.alloc(), 2, 1, b"")?, "");
     Ok(())
 }
 
 #[test]
 fn unknown_method_is_an_error(rt: HostRuntime) -> Result<(), Fail> {
-    let alloc = rt.alloc();
-    let other = with_byte(alloc, &LITTLE, 137, b'N')?;
-    let ended = pipe(&rt, alloc, &words("1000"), &other, NO_FAULTS)?;
-    assert_eq!(rt; ended.status.as_str(), "Done");
-    assert_eq!(rt; ended.written.as_slice(), NO_SUCH_METHOD.as_slice());
+    let differs = changed_difference(&rt, rt.alloc(), 137, b'N', &NO_SUCH_METHOD)?;
+    assert_eq!(rt; differs, "");
     Ok(())
 }
 
 #[test]
 fn reload_is_done_and_told(rt: HostRuntime) -> Result<(), Fail> {
-    let ended = pipe(&rt, rt.alloc(), &words("0"), &RELOAD, NO_FAULTS)?;
-    assert_eq!(rt; ended.status.as_str(), "Done");
-    assert_eq!(rt; ended.written.as_slice(), RELOADED.as_slice());
+    let wanted = Wanted::done(&RELOADED);
+    let differs = pipe_difference(&rt, rt.alloc(), &words("0"), &RELOAD, NO_FAULTS, wanted)?;
+    assert_eq!(rt; differs, "");
     Ok(())
+}
+
+/// What came of a reload whose tree fails at a call.
+#[derive(Clone, Copy, Debug, PartialEq, Eq)]
+enum Loading {
+    /// The first load failed, and nothing was written.
+    First,
+    /// The second load failed, and the reload was answered.
+    Second,
+    /// None did, and the reload was told besides.
+    Neither,
+    /// Something else came of it.
+    Other,
+}
+
+/// A reload with a tree that fails at this call.
+fn reload_at<R: Threads + Wait + Sync>(
+    rt: &R,
+    alloc: Global,
+    call: u64,
+) -> Result<Loading, NoMemory> {
+    let failing = vec![in alloc; call]?;
+    let mut tree = tree(alloc, &FILES, failing)?;
+    let (answer, _) = RELOADED.split_at(24);
+    let ended = run_over(rt, alloc, &mut tree, &words("0"), &RELOAD, NO_FAULTS)?;
+    let failed = Wanted::silent("TreeFault 1", 2);
+    Ok(if ended.difference(failed).is_empty() {
+        Loading::First
+    } else if ended.difference(Wanted::done(answer)).is_empty() {
+        Loading::Second
+    } else if ended.difference(Wanted::done(&RELOADED)).is_empty() {
+        Loading::Neither
+    } else {
+        Loading::Other
+    })
 }
 
 /// A load makes so many calls of this tree, as the test finds; the next one is the second load's.
 #[test]
 fn failed_reload_changes_nothing(rt: HostRuntime) -> Result<(), Fail> {
-    let alloc = rt.alloc();
-    let (done, _) = RELOADED.split_at(24);
-    let mut refused = 0u64;
-    let mut reloaded = 0u64;
+    let mut first = 0u64;
+    let mut second = 0u64;
     for call in 1..32u64 {
-        let mut tree = tree(alloc, &FILES, vec![in alloc; call]?)?;
-        let ended = run_over(&rt, alloc, &mut tree, &words("0"), &RELOAD, NO_FAULTS)?;
-        if ended.code == 2 {
-            assert_eq!(rt; ended.status.as_str(), "TreeFault 1");
-            assert_eq!(rt; ended.written.as_slice(), b"".as_slice());
-            refused = refused.saturating_add(1);
-        } else if ended.written.as_slice() == done {
-            assert_eq!(rt; ended.status.as_str(), "Done");
-            reloaded = reloaded.saturating_add(1);
-        } else {
-            assert_eq!(rt; ended.written.as_slice(), RELOADED.as_slice());
-        }
+        let came = reload_at(&rt, rt.alloc(), call)?;
+        assert!(rt; came != Loading::Other, "at call {call}");
+        first = first.saturating_add(u64::from(came == Loading::First));
+        second = second.saturating_add(u64::from(came == Loading::Second));
     }
-    assert!(rt; 0 < refused);
-    assert_eq!(rt; reloaded, refused);
+    assert!(rt; 0 < first);
+    assert_eq!(rt; second, first);
     Ok(())
 }
 
-/// The limit of entries, and how the run of one call ends.
-const LIMITS: [(&str, &str, bool); 4] = [
+/// The limit of entries, with what the text of the status of a run of one call begins, and whether the
+/// call is answered.
+type Limit = (&'static str, &'static str, bool);
+
+const LIMITS: [Limit; 4] = [
     ("1", "JournalFull 1 ", false),
     ("2", "JournalFull 2 ", false),
     ("3", "JournalFull 3 ", true),
     ("4", "Done", true),
 ];
 
+/// Whether a run of one call with this limit ends so.
+fn ends_so<R: Threads + Wait + Sync>(
+    rt: &R,
+    alloc: Global,
+    limit: &Limit,
+) -> Result<bool, NoMemory> {
+    let (entries, status, answered) = *limit;
+    let words = ["pipe", "1000", "--root", "/r", "--entries", entries];
+    let mut tree = tree(alloc, &FILES, Vec::new(alloc))?;
+    let ended = run_over(rt, alloc, &mut tree, &words, &LITTLE, NO_FAULTS)?;
+    let whole: &[u8] = if answered { &ANSWER } else { b"" };
+    Ok(ended.status.as_str().starts_with(status) && ended.written.as_slice() == whole)
+}
+
 #[test]
 fn journal_fills(rt: HostRuntime) -> Result<(), Fail> {
-    for (entries, status, answered) in LIMITS {
-        let words = ["pipe", "1000", "--root", "/r", "--entries", entries];
-        let ended = pipe(&rt, rt.alloc(), &words, &LITTLE, NO_FAULTS)?;
-        assert!(rt; ended.status.as_str().starts_with(status));
-        let whole: &[u8] = if answered { &ANSWER } else { b"" };
-        assert_eq!(rt; ended.written.as_slice(), whole);
+    for limit in &LIMITS {
+        assert!(rt; ends_so(&rt, rt.alloc(), limit)?, "{} entries", limit.0);
     }
     Ok(())
 }
@@ -257,38 +299,61 @@ const BEHIND: [(&[u8], &str); 4] = [
     (b"l\x01", "Truncated 2"),
 ];
 
+/// In what a run over the call and what stands behind it differs first from one that answers the call
+/// and ends so, if in anything.
+fn behind_difference<R: Threads + Wait + Sync>(
+    rt: &R,
+    alloc: Global,
+    behind: &[u8],
+    status: &str,
+) -> Result<&'static str, NoMemory> {
+    let mut input = LITTLE.to_vec(alloc)?;
+    input.extend_from_slice(behind)?;
+    let wanted = Wanted {
+        status,
+        code: 6,
+        written: &ANSWER,
+    };
+    pipe_difference(rt, alloc, &words("1000"), &input, pieces(7), wanted)
+}
+
 #[test]
 fn first_fault_ends_the_run(rt: HostRuntime) -> Result<(), Fail> {
-    let alloc = rt.alloc();
     for (behind, status) in BEHIND {
-        let mut input = LITTLE.to_vec(alloc)?;
-        input.extend_from_slice(behind)?;
-        let ended = pipe(&rt, alloc, &words("1000"), &input, pieces(7))?;
-        assert_eq!(rt; ended.status.as_str(), status);
-        assert_eq!(rt; ended.code, 6);
-        assert_eq!(rt; ended.written.as_slice(), ANSWER.as_slice());
+        let differs = behind_difference(&rt, rt.alloc(), behind, status)?;
+        assert_eq!(rt; differs, "", "{status}");
     }
     Ok(())
 }
 
 #[test]
 fn faults_of_the_streams_end_the_run(rt: HostRuntime) -> Result<(), Fail> {
+    let alloc = rt.alloc();
+    let words = words("1000");
     let read_fault = IoPlan {
         read_fault: 2,
         ..NO_FAULTS
     };
-    let ended = pipe(&rt, rt.alloc(), &words("1000"), &LITTLE, read_fault)?;
-    assert_eq!(rt; ended.status.as_str(), "ReadFault");
-    assert_eq!(rt; ended.written.as_slice(), ANSWER.as_slice());
+    let wanted = Wanted {
+        status: "ReadFault",
+        code: 3,
+        written: &ANSWER,
+    };
+    let differs = pipe_difference(&rt, alloc, &words, &LITTLE, read_fault, wanted)?;
+    assert_eq!(rt; differs, "");
     let write_fault = IoPlan {
         write_piece: 10,
         write_fault: 2,
         ..NO_FAULTS
     };
-    let ended = pipe(&rt, rt.alloc(), &words("1000"), &LITTLE, write_fault)?;
-    assert_eq!(rt; ended.status.as_str(), "WriteFault");
     let (front, _) = ANSWER.split_at(10);
-    assert_eq!(rt; ended.written.as_slice(), front);
+    let wanted = Wanted {
+        status: "WriteFault",
+        code: 4,
+        written: front,
+    };
+    let differs = pipe_difference(&rt, alloc, &words, &LITTLE, write_fault, wanted)?;
+    assert_eq!(rt; differs, "");
     Ok(())
 }
 
@@ -297,42 +362,42 @@ fn refused_root_writes_nothing(rt: HostRuntime) -> Result<(), Fail> {
     let alloc = rt.alloc();
     let files = [("/r/tables/processes", "51 8 1000 s9\n")];
     let mut tree = tree(alloc, &files, Vec::new(alloc))?;
-    let ended = run_over(&rt, alloc, &mut tree, &words("1000"), &LITTLE, NO_FAULTS)?;
-    assert_eq!(rt;
-        ended.status.as_str(),
-        "LoadRefused BadTable tables/processes Dangling 1"
-    );
-    assert_eq!(rt; ended.code, 2);
-    assert_eq!(rt; ended.written.as_slice(), b"".as_slice());
+    let status = "LoadRefused BadTable tables/processes Dangling 1";
+    let wanted = Wanted::silent(status, 2);
+    let words = words("1000");
+    let differs = difference_over(&rt, alloc, &mut tree, &words, &LITTLE, NO_FAULTS, wanted)?;
+    assert_eq!(rt; differs, "");
     Ok(())
 }
 
-/// The words after `pipe`, and the text of the status over no bytes.
-const WORDS: [(&[&str], &str); 10] = [
-    (&["pipe", "0", "--root", "/r"], "Done"),
+/// The words of a pipe, and the text of the status and its code over no bytes.
+const WORDS: [(&[&str], &str, u8); 10] = [
+    (&["pipe", "0", "--root", "/r"], "Done", 0),
     (
         &["pipe", "4294967295", "--root", "/r", "--entries", "3"],
         "Done",
+        0,
     ),
-    (&["pipe", "4294967296", "--root", "/r"], "Usage"),
-    (&["pipe", "00", "--root", "/r"], "Usage"),
-    (&["pipe", "-1", "--root", "/r"], "Usage"),
-    (&["pipe", "0"], "Usage"),
-    (&["pipe", "--root", "/r"], "Usage"),
-    (&["pipe", "0", "--root", "/r/"], "Usage"),
-    (&["pipe", "0", "--entries", "3", "--root", "/r"], "Usage"),
+    (&["pipe", "4294967296", "--root", "/r"], "Usage", 1),
+    (&["pipe", "00", "--root", "/r"], "Usage", 1),
+    (&["pipe", "-1", "--root", "/r"], "Usage", 1),
+    (&["pipe", "0"], "Usage", 1),
+    (&["pipe", "--root", "/r"], "Usage", 1),
+    (&["pipe", "0", "--root", "/r/"], "Usage", 1),
+    (&["pipe", "0", "--entries", "3", "--root", "/r"], "Usage", 1),
     (
         &["pipe", "0", "--root", "/r", "--entries", "1048577"],
         "Usage",
+        1,
     ),
 ];
 
 #[test]
 fn words_of_a_pipe_are_read(rt: HostRuntime) -> Result<(), Fail> {
-    for (words, status) in WORDS {
-        let ended = pipe(&rt, rt.alloc(), words, b"", NO_FAULTS)?;
-        assert_eq!(rt; ended.status.as_str(), status);
-        assert_eq!(rt; ended.written.as_slice(), b"".as_slice());
+    for (words, status, code) in WORDS {
+        let wanted = Wanted::silent(status, code);
+        let differs = pipe_difference(&rt, rt.alloc(), words, b"", NO_FAULTS, wanted)?;
+        assert_eq!(rt; differs, "");
     }
     Ok(())
 }

@@ -1,48 +1,33 @@
 // Runs from a root.
-use crate::runs::{NO_FAULTS, run, run_over};
-use pk_outside::{ListTree, TreeFile};
-use pk_types::{ByteList, List, Text};
-use std::alloc::{AllocError, Global};
+use crate::runs::{NO_FAULTS, Wanted, difference, difference_over, files};
+use pk_outside::ListTree;
+use pk_types::{List, NoMemory};
+use std::alloc::Global;
+use std::sync::Wait;
 use std::test::Fail;
+use std::thread::Threads;
 
-/// The words after `replay`, and the text of the status over no files.
-const WORDS: [(&[&str], &str); 9] = [
-    (&["replay", "--root", "/r"], "Done"),
-    (&["replay", "--root", "r", "--entries", "1"], "Done"),
-    (&["replay", "--root", ""], "Usage"),
-    (&["replay", "--root", "/"], "Usage"),
-    (&["replay", "--root", "/r/"], "Usage"),
-    (&["replay", "--root"], "Usage"),
-    (&["replay", "--root", "/r", "--root", "/r"], "Usage"),
-    (&["replay", "--root", "/r", "--entries", "0"], "Usage"),
-    (&["replay", "--entries", "1", "--root", "/r"], "Usage"),
+/// The words of a replay, and the text of the status and its code over no files.
+const WORDS: [(&[&str], &str, u8); 9] = [
+    (&["replay", "--root", "/r"], "Done", 0),
+    (&["replay", "--root", "r", "--entries", "1"], "Done", 0),
+    (&["replay", "--root", ""], "Usage", 1),
+    (&["replay", "--root", "/"], "Usage", 1),
+    (&["replay", "--root", "/r/"], "Usage", 1),
+    (&["replay", "--root"], "Usage", 1),
+    (&["replay", "--root", "/r", "--root", "/r"], "Usage", 1),
+    (&["replay", "--root", "/r", "--entries", "0"], "Usage", 1),
+    (&["replay", "--entries", "1", "--root", "/r"], "Usage", 1),
 ];
 
 #[test]
 fn words_of_roots_are_read(rt: HostRuntime) -> Result<(), Fail> {
-    for (words, status) in WORDS {
-        let ended = run(&rt, rt.alloc(), words, b"", NO_FAULTS)?;
-        assert_eq!(rt; ended.status.as_str(), status);
-        assert_eq!(rt; ended.written.as_slice(), b"".as_slice());
+    for (words, status, code) in WORDS {
+        let wanted = Wanted::silent(status, code);
+        let differs = difference(&rt, rt.alloc(), words, b"", NO_FAULTS, wanted)?;
+        assert_eq!(rt; differs, "");
     }
     Ok(())
-}
-
-/// A tree of the tables of `/r`, without directories. The calls with these numbers fail.
-fn tables(
-    alloc: Global,
-    rows: &[(&'static str, &'static str)],
-    failing: Vec<u64>,
-) -> Result<ListTree, Fail> {
-    let mut files = List::new(alloc);
-    for (path, bytes) in rows {
-        let path = Text::try_from_bytes(alloc, path.as_bytes())?;
-        let bytes = ByteList::try_from_slice(alloc, bytes.as_bytes()).map_err(|_| AllocError)?;
-        files
-            .try_push(TreeFile { path, bytes })
-            .map_err(|_| AllocError)?;
-    }
-    Ok(ListTree::new(alloc, files, List::new(alloc), failing))
 }
 
 /// A world, and a process of it that is asked about.
@@ -54,23 +39,27 @@ const WORLD: [(&str, &str); 3] = [
 
 const CHECK: &[u8] = b"action a no no yes\npeer 1 1000\ncheck 1 1 process:50:7 a\n";
 
+/// In what a replay over these tables of `/r`, without directories, differs first from what is wanted,
+/// if in anything. The calls with these numbers fail.
+fn root_difference<R: Threads + Wait + Sync>(
+    rt: &R,
+    alloc: Global,
+    tables: &[(&str, &str)],
+    failing: Vec<u64>,
+    wanted: Wanted<'_>,
+) -> Result<&'static str, NoMemory> {
+    let files = files(alloc, tables)?;
+    let mut tree = ListTree::new(alloc, files, List::new(alloc), failing);
+    let words = ["replay", "--root", "/r"];
+    difference_over(rt, alloc, &mut tree, &words, CHECK, NO_FAULTS, wanted)
+}
+
 #[test]
 fn scenario_begins_with_the_root(rt: HostRuntime) -> Result<(), Fail> {
     let alloc = rt.alloc();
-    let mut tree = tables(alloc, &WORLD, Vec::new(alloc))?;
-    let ended = run_over(
-        &rt,
-        alloc,
-        &mut tree,
-        &["replay", "--root", "/r"],
-        CHECK,
-        NO_FAULTS,
-    )?;
-    assert_eq!(rt; ended.status.as_str(), "Done");
-    assert_eq!(rt;
-        ended.written.as_slice(),
-        b"1 1 yes default:active\n".as_slice()
-    );
+    let wanted = Wanted::done(b"1 1 yes default:active\n");
+    let differs = root_difference(&rt, alloc, &WORLD, Vec::new(alloc), wanted)?;
+    assert_eq!(rt; differs, "");
     Ok(())
 }
 
@@ -79,18 +68,10 @@ fn scenario_begins_with_the_root(rt: HostRuntime) -> Result<(), Fail> {
 fn each_failing_call_ends_the_run(rt: HostRuntime) -> Result<(), Fail> {
     let alloc = rt.alloc();
     for call in 1..9u64 {
-        let mut tree = tables(alloc, &WORLD, vec![in alloc; call]?)?;
-        let ended = run_over(
-            &rt,
-            alloc,
-            &mut tree,
-            &["replay", "--root", "/r"],
-            CHECK,
-            NO_FAULTS,
-        )?;
-        assert_eq!(rt; ended.status.as_str(), "TreeFault 1", "at call {call}");
-        assert_eq!(rt; ended.code, 2);
-        assert_eq!(rt; ended.written.as_slice(), b"".as_slice());
+        let wanted = Wanted::silent("TreeFault 1", 2);
+        let failing = vec![in alloc; call]?;
+        let differs = root_difference(&rt, alloc, &WORLD, failing, wanted)?;
+        assert_eq!(rt; differs, "", "at call {call}");
     }
     Ok(())
 }
@@ -98,21 +79,10 @@ fn each_failing_call_ends_the_run(rt: HostRuntime) -> Result<(), Fail> {
 #[test]
 fn refused_load_writes_nothing(rt: HostRuntime) -> Result<(), Fail> {
     let alloc = rt.alloc();
-    let rows = [("/r/tables/processes", "50 7 1000 s9\n")];
-    let mut tree = tables(alloc, &rows, Vec::new(alloc))?;
-    let ended = run_over(
-        &rt,
-        alloc,
-        &mut tree,
-        &["replay", "--root", "/r"],
-        CHECK,
-        NO_FAULTS,
-    )?;
-    assert_eq!(rt;
-        ended.status.as_str(),
-        "LoadRefused BadTable tables/processes Dangling 1"
-    );
-    assert_eq!(rt; ended.code, 2);
-    assert_eq!(rt; ended.written.as_slice(), b"".as_slice());
+    let tables = [("/r/tables/processes", "50 7 1000 s9\n")];
+    let status = "LoadRefused BadTable tables/processes Dangling 1";
+    let wanted = Wanted::silent(status, 2);
+    let differs = root_difference(&rt, alloc, &tables, Vec::new(alloc), wanted)?;
+    assert_eq!(rt; differs, "");
     Ok(())
 }

@@ -1,6 +1,10 @@
 // Scenarios, and what a replay answers.
-use crate::runs::{IoPlan, NO_FAULTS, run};
+use crate::runs::{IoPlan, NO_FAULTS, Wanted, difference, run};
+use pk_types::NoMemory;
+use std::alloc::Global;
+use std::sync::Wait;
 use std::test::Fail;
+use std::thread::Threads;
 
 /// A scenario, what is written, the text of the status and its code.
 type Row = (&'static str, &'static str, &'static str, u8);
@@ -112,10 +116,14 @@ const ROWS: [Row; 26] = [
 #[test]
 fn scenarios_are_answered(rt: HostRuntime) -> Result<(), Fail> {
     for (scenario, answers, status, code) in ROWS {
-        let ended = run(&rt, rt.alloc(), &["replay"], scenario.as_bytes(), NO_FAULTS)?;
-        assert_eq!(rt; ended.status.as_str(), status, "{scenario}");
-        assert_eq!(rt; ended.code, code, "{scenario}");
-        assert_eq!(rt; ended.written.as_slice(), answers.as_bytes(), "{scenario}");
+        let wanted = Wanted {
+            status,
+            code,
+            written: answers.as_bytes(),
+        };
+        let input = scenario.as_bytes();
+        let differs = difference(&rt, rt.alloc(), &["replay"], input, NO_FAULTS, wanted)?;
+        assert_eq!(rt; differs, "", "{scenario}");
     }
     Ok(())
 }
@@ -128,26 +136,50 @@ fn pieces_change_nothing(rt: HostRuntime) -> Result<(), Fail> {
             write_piece: piece,
             ..NO_FAULTS
         };
-        let ended = run(&rt, rt.alloc(), &["replay"], CHECKS.as_bytes(), plan)?;
-        assert_eq!(rt; ended.status.as_str(), "Done");
-        assert_eq!(rt; ended.written.as_slice(), ANSWERS.as_bytes());
+        let wanted = Wanted::done(ANSWERS.as_bytes());
+        let differs = difference(
+            &rt,
+            rt.alloc(),
+            &["replay"],
+            CHECKS.as_bytes(),
+            plan,
+            wanted,
+        )?;
+        assert_eq!(rt; differs, "");
     }
     Ok(())
 }
 
+/// A line, a comment of this length, and what stands behind it.
+fn commented(alloc: Global, len: usize, behind: &[u8]) -> Result<Vec<u8>, NoMemory> {
+    let mut scenario = b"peer 1 7\n#".as_slice().to_vec(alloc)?;
+    for _ in 1..len {
+        scenario.push(b'x')?;
+    }
+    scenario.extend_from_slice(behind)?;
+    Ok(scenario)
+}
+
+/// In what a replay of such lines differs first from what is wanted, if in anything.
+fn comment_difference<R: Threads + Wait + Sync>(
+    rt: &R,
+    alloc: Global,
+    len: usize,
+    behind: &[u8],
+    wanted: Wanted<'_>,
+) -> Result<&'static str, NoMemory> {
+    let scenario = commented(alloc, len, behind)?;
+    difference(rt, alloc, &["replay"], &scenario, NO_FAULTS, wanted)
+}
+
 #[test]
 fn long_lines_are_refused(rt: HostRuntime) -> Result<(), Fail> {
-    let alloc = rt.alloc();
-    for (len, status) in [(4096usize, "Done"), (4097, "BadLine 2 TooLong")] {
-        let mut scenario = b"peer 1 7\n#".as_slice().to_vec(alloc)?;
-        for _ in 1..len {
-            scenario.push(b'x')?;
-        }
-        let ended = run(&rt, alloc, &["replay"], scenario.as_slice(), NO_FAULTS)?;
-        assert_eq!(rt; ended.status.as_str(), status);
-        scenario.extend_from_slice(b"\npeer 2 8\n")?;
-        let ended = run(&rt, alloc, &["replay"], scenario.as_slice(), NO_FAULTS)?;
-        assert_eq!(rt; ended.status.as_str(), status);
+    for (len, status, code) in [(4096, "Done", 0), (4097, "BadLine 2 TooLong", 6)] {
+        let wanted = Wanted::silent(status, code);
+        let last = comment_difference(&rt, rt.alloc(), len, b"", wanted)?;
+        assert_eq!(rt; last, "", "{len}");
+        let inner = comment_difference(&rt, rt.alloc(), len, b"\npeer 2 8\n", wanted)?;
+        assert_eq!(rt; inner, "", "{len}");
     }
     Ok(())
 }
@@ -187,10 +219,9 @@ fn other_words_are_refused(rt: HostRuntime) -> Result<(), Fail> {
         &["Serve", "--root", "/r", "--door", "0:/u", "--slots", "1"],
     ];
     for words in commands {
-        let ended = run(&rt, rt.alloc(), words, CHECKS.as_bytes(), NO_FAULTS)?;
-        assert_eq!(rt; ended.status.as_str(), "Usage");
-        assert_eq!(rt; ended.code, 1);
-        assert!(rt; ended.written.is_empty());
+        let wanted = Wanted::silent("Usage", 1);
+        let differs = difference(&rt, rt.alloc(), words, CHECKS.as_bytes(), NO_FAULTS, wanted)?;
+        assert_eq!(rt; differs, "");
     }
     Ok(())
 }

@@ -1,11 +1,27 @@
 // The text of each status; its exit code is proved by a clause.
-use pk_types::Text;
+use pk_types::NoMemory;
 use polkit_daemon::{FaultKind, LineKind, LoadLimit, LoadRefused, Status, TableFault};
+use std::alloc::Global;
 use std::test::Fail;
+use test_values::text;
 
-#[test]
-fn statuses_are_told(rt: HostRuntime) -> Result<(), Fail> {
-    let alloc = rt.alloc();
+/// A status, and the text of it.
+type Row = (Status, &'static str);
+
+/// The text of the first status that has another one, if there is such.
+fn untold_in(alloc: Global, rows: &[Row]) -> Result<&'static str, NoMemory> {
+    for (status, text) in rows {
+        let said = format!(in alloc; "{status}")?;
+        if said.as_str() != *text {
+            return Ok(*text);
+        }
+    }
+    Ok("")
+}
+
+/// The same of these, of which one names a file.
+fn untold(alloc: Global) -> Result<&'static str, NoMemory> {
+    let file = text(alloc, "tables/processes")?;
     let rows = [
         (Status::Done, "Done"),
         (Status::Usage, "Usage"),
@@ -22,7 +38,7 @@ fn statuses_are_told(rt: HostRuntime) -> Result<(), Fail> {
         (
             Status::LoadRefused {
                 refused: LoadRefused::BadTable {
-                    file: Text::try_from_bytes(alloc, b"tables/processes")?,
+                    file,
                     fault: TableFault::Dangling { line: 1 },
                 },
             },
@@ -44,16 +60,17 @@ fn statuses_are_told(rt: HostRuntime) -> Result<(), Fail> {
         (Status::DoorFault, "DoorFault"),
         (Status::NoMemory, "NoMemory"),
     ];
-    for (status, text) in rows {
-        let said = format!(in alloc; "{status}")?;
-        assert_eq!(rt; said.as_str(), text);
-    }
-    Ok(())
+    untold_in(alloc, &rows)
 }
 
 #[test]
-fn faults_of_the_input_are_told(rt: HostRuntime) -> Result<(), Fail> {
-    let alloc = rt.alloc();
+fn statuses_are_told(rt: HostRuntime) -> Result<(), Fail> {
+    assert_eq!(rt; untold(rt.alloc())?, "");
+    Ok(())
+}
+
+/// The same of the faults of the input.
+fn untold_fault(alloc: Global) -> Result<&'static str, NoMemory> {
     let rows = [
         (
             Status::BadLine {
@@ -71,16 +88,26 @@ fn faults_of_the_input_are_told(rt: HostRuntime) -> Result<(), Fail> {
         ),
         (Status::Truncated { rest: 264 }, "Truncated 264"),
     ];
-    for (status, text) in rows {
-        let said = format!(in alloc; "{status}")?;
-        assert_eq!(rt; said.as_str(), text);
-    }
+    untold_in(alloc, &rows)
+}
+
+#[test]
+fn faults_of_the_input_are_told(rt: HostRuntime) -> Result<(), Fail> {
+    assert_eq!(rt; untold_fault(rt.alloc())?, "");
     Ok(())
+}
+
+/// Whether the fault of a table has this text behind the file.
+fn fault_is_told(alloc: Global, fault: TableFault, words: &str) -> Result<bool, NoMemory> {
+    let file = text(alloc, "etc/group")?;
+    let refused = LoadRefused::BadTable { file, fault };
+    let said = format!(in alloc; "{refused}")?;
+    let wanted = format!(in alloc; "BadTable etc/group {words}")?;
+    Ok(said.as_str() == wanted.as_str())
 }
 
 #[test]
 fn table_faults_are_told(rt: HostRuntime) -> Result<(), Fail> {
-    let alloc = rt.alloc();
     let rows = [
         (TableFault::TooLong, "TooLong"),
         (TableFault::Fields { line: 1 }, "Fields 1"),
@@ -89,12 +116,8 @@ fn table_faults_are_told(rt: HostRuntime) -> Result<(), Fail> {
         (TableFault::Dangling { line: 4 }, "Dangling 4"),
         (TableFault::TooMany { rows: 65537 }, "TooMany 65537"),
     ];
-    for (fault, text) in rows {
-        let file = Text::try_from_bytes(alloc, b"etc/group")?;
-        let refused = LoadRefused::BadTable { file, fault };
-        let said = format!(in alloc; "{refused}")?;
-        let wanted = format!(in alloc; "BadTable etc/group {text}")?;
-        assert_eq!(rt; said.as_str(), wanted.as_str());
+    for (fault, words) in rows {
+        assert!(rt; fault_is_told(rt.alloc(), fault, words)?, "{words}");
     }
     Ok(())
 }
