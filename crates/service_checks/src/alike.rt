@@ -38,6 +38,13 @@ const SCENE: Scene = Scene {
     fault: Fault::None,
 };
 
+/// The input of these messages.
+fn input_of(alloc: Global, messages: &[u8]) -> Result<ByteSource, NoMemory> {
+    let mut bytes = messages.to_vec(alloc)?;
+    bytes.truncate(ROOM);
+    Ok(ByteSource::new(bytes, ROOM, Vec::new(alloc)))
+}
+
 /// What a connection of this user is sent for these messages, where there is no other one.
 fn sent_alone<R: Threads + Wait + Sync>(
     rt: &R,
@@ -46,11 +53,10 @@ fn sent_alone<R: Threads + Wait + Sync>(
     messages: &[u8],
 ) -> Result<Vec<u8>, NoMemory> {
     let words = texts(alloc, &["pipe", uid, "--root", "/r"])?;
+    let mut input = input_of(alloc, messages)?;
+    let mut output = output(alloc)?;
     let mut tree = tree(alloc, Vec::new(alloc))?;
     let mut station = ListStation::empty(alloc);
-    let (messages, _) = messages.split_at(messages.len().min(ROOM));
-    let mut input = ByteSource::new(messages.to_vec(alloc)?, ROOM, Vec::new(alloc));
-    let mut output = output(alloc)?;
     polkitd(
         rt,
         alloc,
@@ -76,18 +82,31 @@ fn is_alike<R: Threads + Wait + Sync>(
     Ok(OK.len() < alone.len() && served.sent(place, 0) == alone.as_slice())
 }
 
+/// Which of the end of a service and its links differs from one thread, if any does.
+fn difference_in<R: Threads + Wait + Sync>(
+    rt: &R,
+    alloc: Global,
+    served: &Served,
+) -> Result<&'static str, NoMemory> {
+    Ok(if served.end.as_str() != "Done" {
+        "end"
+    } else if !is_alike(rt, alloc, served, 0, "1000", TALK_OF_ALICE)? {
+        "alice"
+    } else if !is_alike(rt, alloc, served, 1, "0", TALK_OF_ROOT)? {
+        "root"
+    } else {
+        ""
+    })
+}
+
+/// The same of the service with both connections.
+fn difference<R: Threads + Wait + Sync>(rt: &R, alloc: Global) -> Result<&'static str, NoMemory> {
+    let served = play(rt, alloc, &SCENE)?;
+    difference_in(rt, alloc, &served)
+}
+
 #[test]
 fn answers_are_those_of_one_thread(rt: HostRuntime) -> Result<(), Fail> {
-    let alloc = rt.alloc();
-    let served = play(&rt, alloc, &SCENE)?;
-    assert_eq!(rt; served.end.as_str(), "Done");
-    assert!(rt;
-        is_alike(&rt, alloc, &served, 0, "1000", TALK_OF_ALICE)?,
-        "alice"
-    );
-    assert!(rt;
-        is_alike(&rt, alloc, &served, 1, "0", TALK_OF_ROOT)?,
-        "root"
-    );
+    assert_eq!(rt; difference(&rt, rt.alloc())?, "");
     Ok(())
 }

@@ -91,7 +91,7 @@ fn reload_at<R: Threads + Wait + Sync>(
     };
     let served = play(rt, alloc, &scene)?;
     let end = served.end.as_str();
-    let written = served.written.as_slice();
+    let written = served.written();
     Ok(if end == "TreeFault { count: 1 }" && written.is_empty() {
         Loading::First
     } else if end == "Done" && is_told(written, REFUSED) {

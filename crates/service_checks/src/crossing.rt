@@ -2,6 +2,7 @@
 use crate::cues::{Cue, CueStation, Part, SentBytes, Who};
 use crate::wire::{BEGIN, DONE, OK, REGISTER, RESPOND, RETURN, YES};
 use crate::written::{is_made, is_told};
+use pk_outside::ByteSink;
 use pk_types::{NoMemory, Text};
 use polkit_daemon::{Status, serve};
 use serve_words::read_plan;
@@ -117,29 +118,52 @@ const ROWS: [Row; 2] = [
     },
 ];
 
-/// Serves the plan that the words name, and answers what it wrote, and how it ended.
-fn served<R: Threads + Wait + Clock + Sync>(
+/// Serves the plan that the words name, and answers the code of how it ended.
+fn serve_named<R: Threads + Wait + Clock + Sync>(
     rt: &R,
     alloc: Global,
     words: &[Text],
     station: &mut CueStation<R>,
-) -> Result<(u8, Vec<u8>), NoMemory> {
-    let Some(plan) = read_plan(alloc, words)? else {
-        return Ok((Status::Usage.code(), Vec::new(alloc)));
-    };
+    output: &mut ByteSink,
+) -> Result<u8, NoMemory> {
     let mut tree = tree(alloc, Vec::new(alloc))?;
-    let mut output = output(alloc)?;
-    let status = serve(rt, alloc, &plan, &mut tree, station, &mut output);
-    Ok((status.code(), output.bytes().to_vec(alloc)?))
+    let Some(plan) = read_plan(alloc, words)? else {
+        return Ok(Status::Usage.code());
+    };
+    let status = serve(rt, alloc, &plan, &mut tree, station, output);
+    Ok(status.code())
 }
 
-/// In what a run differs from what it has to be, if it does.
+/// In what a run of these lines, which ended with this code, differs from what it has to be, if it does.
+fn difference_in<R: Clock + Sync>(
+    station: &CueStation<R>,
+    written: &[u8],
+    lines: &[(&str, &str)],
+    code: u8,
+) -> &'static str {
+    if !is_made(station.written(1), &[OK, YES]) {
+        "asker"
+    } else if !is_made(station.written(0), &[OK, DONE, BEGIN]) {
+        "agent"
+    } else if !is_made(station.written(2), &[OK, DONE]) {
+        "helper"
+    } else if !is_told(written, lines) {
+        "lines"
+    } else if code != 0 {
+        "status"
+    } else {
+        ""
+    }
+}
+
+/// The same of the run of a row.
 fn difference<R: Threads + Wait + Clock + Sync>(
     rt: &R,
     alloc: Global,
-    row: Row,
+    row: &Row,
 ) -> Result<&'static str, NoMemory> {
     let words = texts(alloc, row.words)?;
+    let mut output = output(alloc)?;
     let sent = SentBytes::none();
     let mut station = CueStation {
         rt,
@@ -148,25 +172,13 @@ fn difference<R: Threads + Wait + Clock + Sync>(
         parts: PARTS,
         shut: Vec::new(alloc),
     };
-    let (code, written) = served(rt, alloc, words.as_slice(), &mut station)?;
-    Ok(if !is_made(station.written(1), &[OK, YES]) {
-        "asker"
-    } else if !is_made(station.written(0), &[OK, DONE, BEGIN]) {
-        "agent"
-    } else if !is_made(station.written(2), &[OK, DONE]) {
-        "helper"
-    } else if !is_told(written.as_slice(), row.lines) {
-        "lines"
-    } else if code != 0 {
-        "status"
-    } else {
-        ""
-    })
+    let code = serve_named(rt, alloc, words.as_slice(), &mut station, &mut output)?;
+    Ok(difference_in(&station, output.bytes(), row.lines, code))
 }
 
 #[test]
 fn answered_across_connections(rt: HostRuntime) -> Result<(), Fail> {
-    for row in ROWS {
+    for row in &ROWS {
         assert_eq!(rt; difference(&rt, rt.alloc(), row)?, "", "{}", row.shows);
     }
     Ok(())

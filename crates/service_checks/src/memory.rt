@@ -1,9 +1,8 @@
 // A service over objects in memory.
 use crate::written::joined;
-use authority_service::serve;
+use authority_service::{ServiceEnd, serve};
 use pk_outside::{
-    ByteLink, ByteSink, ByteSource, DoorPlan, ListStation, ListTree, Sink, Station, StationPlan,
-    Tree,
+    ByteLink, ByteSink, ByteSource, DoorPlan, ListStation, Sink, Station, StationPlan,
 };
 use pk_types::{List, NoMemory, Text};
 use serve_words::read_plan;
@@ -84,24 +83,22 @@ pub struct Scene {
     pub fault: Fault,
 }
 
-/// How a service ended, what it wrote, and what came back to its station.
+/// How a service ended, its output, and what came back to its station.
 #[derive(Drop)]
 pub struct Served {
     pub end: String,
-    pub written: Vec<u8>,
+    pub output: ByteSink,
     pub station: ListStation,
 }
 
 /// The link of a row. A read gives at most 40 bytes, and a write takes 50.
 fn link(alloc: Global, row: &LinkRow, calls: Calls) -> Result<ByteLink, NoMemory> {
-    let bytes = joined(alloc, row.gives)?;
-    let (bytes, _) = bytes.as_slice().split_at(bytes.len().min(ROOM));
     let reads = vec![in alloc; calls.read]?;
     let writes = vec![in alloc; calls.write]?;
-    Ok(ByteLink::new(
-        ByteSource::new(bytes.to_vec(alloc)?, 40, reads),
-        ByteSink::new(alloc, row.room, 50, writes)?,
-    ))
+    let mut bytes = joined(alloc, row.gives)?;
+    bytes.truncate(ROOM);
+    let output = ByteSink::new(alloc, row.room, 50, writes)?;
+    Ok(ByteLink::new(ByteSource::new(bytes, 40, reads), output))
 }
 
 /// What a door with these links gives.
@@ -132,22 +129,34 @@ fn station(alloc: Global, scene: &Scene) -> Result<ListStation, NoMemory> {
     Ok(ListStation::new(alloc, plan))
 }
 
-/// Serves the plan that the words name, and answers the text of how it ended.
-fn serve_named<R: Threads + Wait + Sync, F: Tree, N: Station, O: Sink>(
+/// The text of how a service ended.
+fn end_text(alloc: Global, end: &ServiceEnd) -> Result<String, NoMemory> {
+    Ok(format!(in alloc; "{end:?}")?)
+}
+
+/// Serves the plan that the words name over a tree of which this call fails, and answers the text of how
+/// it ended.
+fn serve_named<R: Threads + Wait + Sync, N: Station, O: Sink>(
     rt: &R,
     alloc: Global,
     words: &[Text],
-    tree: &mut F,
+    failing: u64,
     station: &mut N,
     output: &mut O,
 ) -> Result<String, NoMemory> {
-    match read_plan(alloc, words)? {
-        Some(plan) => {
-            let end = serve(rt, alloc, &plan, tree, station, output);
-            Ok(format!(in alloc; "{end:?}")?)
-        }
-        None => Ok(String::from_str(alloc, "no plan")?),
-    }
+    let failing = vec![in alloc; failing]?;
+    let mut tree = tree(alloc, failing)?;
+    let Some(plan) = read_plan(alloc, words)? else {
+        return Ok(String::from_str(alloc, "no plan")?);
+    };
+    let end = serve(rt, alloc, &plan, &mut tree, station, output);
+    end_text(alloc, &end)
+}
+
+/// An output of which this write fails.
+fn failing_output(alloc: Global, failing: u64) -> Result<ByteSink, NoMemory> {
+    let failing = vec![in alloc; failing]?;
+    ByteSink::new(alloc, ROOM, ROOM, failing)
 }
 
 /// Plays a scene.
@@ -156,27 +165,31 @@ pub fn play<R: Threads + Wait + Sync>(
     alloc: Global,
     scene: &Scene,
 ) -> Result<Served, NoMemory> {
-    let words = texts(alloc, scene.words)?;
     let calls = scene.fault.calls();
-    let mut tree = tree(alloc, vec![in alloc; calls.tree]?)?;
+    let words = texts(alloc, scene.words)?;
+    let mut output = failing_output(alloc, calls.output)?;
     let mut station = station(alloc, scene)?;
-    let mut output = ByteSink::new(alloc, ROOM, ROOM, vec![in alloc; calls.output]?)?;
     let end = serve_named(
         rt,
         alloc,
         words.as_slice(),
-        &mut tree,
+        calls.tree,
         &mut station,
         &mut output,
     )?;
     Ok(Served {
         end,
-        written: output.bytes().to_vec(alloc)?,
+        output,
         station,
     })
 }
 
 impl Served {
+    /// What it wrote.
+    pub fn written(&self) -> &[u8] {
+        self.output.bytes()
+    }
+
     /// What the link was sent that this door gave at this place.
     pub fn sent(&self, door: usize, link: usize) -> &[u8] {
         let Some(door) = self.station.shut_doors().get(door) else {

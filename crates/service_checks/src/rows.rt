@@ -313,7 +313,7 @@ fn is_sent(served: &Served, wanted: &[&[&[u8]]]) -> bool {
 /// Whether this came of a service.
 fn is_outcome(served: &Served, outcome: &Outcome) -> bool {
     served.end.as_str().starts_with(outcome.end)
-        && is_told(served.written.as_slice(), outcome.lines)
+        && is_told(served.written(), outcome.lines)
         && is_sent(served, outcome.sent)
 }
 
@@ -327,7 +327,14 @@ fn is_allowed(served: &Served, outcomes: &[Outcome]) -> bool {
     false
 }
 
-/// What a service wrote and how it ended, where this is not allowed.
+/// How a service ended and what it wrote.
+fn told(alloc: Global, served: &Served) -> Result<String, NoMemory> {
+    let end = served.end.as_str();
+    let lines = String::from_utf8_lossy(alloc, served.written())?;
+    Ok(format!(in alloc; "{end} {lines:?}")?)
+}
+
+/// The same where it is not allowed.
 fn difference<R: Threads + Wait + Sync>(
     rt: &R,
     alloc: Global,
@@ -335,11 +342,10 @@ fn difference<R: Threads + Wait + Sync>(
 ) -> Result<String, NoMemory> {
     let served = play(rt, alloc, &row.scene)?;
     if is_allowed(&served, row.outcomes) {
-        return Ok(String::new(alloc));
+        Ok(String::new(alloc))
+    } else {
+        told(alloc, &served)
     }
-    let lines = String::from_utf8_lossy(alloc, served.written.as_slice())?;
-    let end = served.end;
-    Ok(format!(in alloc; "{end} {lines:?}")?)
 }
 
 #[test]

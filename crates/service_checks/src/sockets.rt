@@ -7,7 +7,12 @@ use pkcheck_tool::{CheckStatus, pkcheck};
 use polkit_daemon::polkitd;
 use script_agent::{AgentStatus, script_agent};
 use std::alloc::Global;
-use std::fs;
+use std::env::Env;
+use std::fs::{self, Files};
+use std::io;
+use std::net::Net;
+use std::process::Abort;
+use std::random::RandomSource;
 use std::sync::Wait;
 use std::test::Fail;
 use std::thread::{Threads, join};
@@ -52,76 +57,100 @@ struct Commands {
     check: TextList,
 }
 
+/// The path of a socket in a folder.
+fn path_of(alloc: Global, folder: &str, name: &str) -> Result<String, NoMemory> {
+    Ok(format!(in alloc; "{folder}/{name}")?)
+}
+
+/// The words for a door at a socket in a folder.
+fn door_of(alloc: Global, uid: u32, folder: &str, name: &str) -> Result<String, NoMemory> {
+    Ok(format!(in alloc; "{uid}:{folder}/{name}")?)
+}
+
+/// The words of the service.
+fn service_words(alloc: Global, folder: &str) -> Result<TextList, NoMemory> {
+    let agent = door_of(alloc, 1000, folder, "agent")?;
+    let check = door_of(alloc, 1000, folder, "check")?;
+    let helper = door_of(alloc, 0, folder, "helper")?;
+    let words = [
+        "serve",
+        "--root",
+        "/r",
+        "--door",
+        agent.as_str(),
+        "--door",
+        check.as_str(),
+        "--door",
+        helper.as_str(),
+        "--slots",
+        "1",
+        "--stop-after",
+        "1",
+    ];
+    texts(alloc, &words)
+}
+
+/// The words of the agent.
+fn agent_words(alloc: Global, folder: &str) -> Result<TextList, NoMemory> {
+    let agent = door_of(alloc, 1000, folder, "agent")?;
+    let helper = path_of(alloc, folder, "helper")?;
+    let words = [
+        "--door",
+        agent.as_str(),
+        "--helper",
+        helper.as_str(),
+        "--session",
+        "s1",
+        "--rules",
+        "/rules",
+        "--count",
+        "1",
+    ];
+    texts(alloc, &words)
+}
+
+/// The words of the check.
+fn check_words(alloc: Global, folder: &str) -> Result<TextList, NoMemory> {
+    let check = door_of(alloc, 1000, folder, "check")?;
+    let words = [
+        "--door",
+        check.as_str(),
+        "--action-id",
+        "a.self",
+        "--process",
+        "50,7",
+        "--allow-user-interaction",
+    ];
+    texts(alloc, &words)
+}
+
 /// The words for the sockets in a folder: the agent's, that of the check, and the helper's.
 fn words_for(alloc: Global, folder: &str) -> Result<Commands, NoMemory> {
-    let agent = format!(in alloc; "1000:{folder}/agent")?;
-    let check = format!(in alloc; "1000:{folder}/check")?;
-    let helper_path = format!(in alloc; "{folder}/helper")?;
-    let helper = format!(in alloc; "0:{helper_path}")?;
+    let serve = service_words(alloc, folder)?;
+    let agent = agent_words(alloc, folder)?;
+    let check = check_words(alloc, folder)?;
     Ok(Commands {
-        serve: texts(
-            alloc,
-            &[
-                "serve",
-                "--root",
-                "/r",
-                "--door",
-                agent.as_str(),
-                "--door",
-                check.as_str(),
-                "--door",
-                helper.as_str(),
-                "--slots",
-                "1",
-                "--stop-after",
-                "1",
-            ],
-        )?,
-        agent: texts(
-            alloc,
-            &[
-                "--door",
-                agent.as_str(),
-                "--helper",
-                helper_path.as_str(),
-                "--session",
-                "s1",
-                "--rules",
-                "/rules",
-                "--count",
-                "1",
-            ],
-        )?,
-        check: texts(
-            alloc,
-            &[
-                "--door",
-                check.as_str(),
-                "--action-id",
-                "a.self",
-                "--process",
-                "50,7",
-                "--allow-user-interaction",
-            ],
-        )?,
+        serve,
+        agent,
+        check,
     })
 }
 
-/// Runs the service over a station.
+/// Runs the service over a station, and answers its code and whether it wrote its lines.
 fn serve_over<R: Threads + Wait + AllocGlobal + Sync, N: Station>(
     rt: &R,
     words: &[Text],
     inner: N,
     board: &Board,
-) -> Option<(u8, Vec<u8>)> {
+) -> Option<(u8, bool)> {
     let alloc = rt.alloc();
+    let mut tree = tree(alloc, Vec::new(alloc)).ok()?;
+    let mut output = output(alloc).ok()?;
+    let mut input = ByteSource::new(Vec::new(alloc), 1, Vec::new(alloc));
     let mut station = ListeningStation {
         inner,
         doors: &board.doors,
     };
-    let mut tree = tree(alloc, Vec::new(alloc)).ok()?;
-    let mut input = ByteSource::new(Vec::new(alloc), 1, Vec::new(alloc));
-    let mut output = output(alloc).ok()?;
     let status = polkitd(
         rt,
         alloc,
@@ -131,17 +160,19 @@ fn serve_over<R: Threads + Wait + AllocGlobal + Sync, N: Station>(
         &mut input,
         &mut output,
     );
-    Some((status.code(), output.bytes().to_vec(alloc).ok()?))
+    Some((status.code(), is_told(output.bytes(), LINES)))
 }
 
-/// Runs the agent over a station.
+/// Runs the agent over a station, and answers its status and whether it wrote its line.
 fn attend_over<R: Clock + AllocGlobal + Sync, N: Station>(
     rt: &R,
     words: &[Text],
     inner: N,
     board: &Board,
-) -> Option<(AgentStatus, Vec<u8>)> {
+) -> Option<(AgentStatus, bool)> {
     let alloc = rt.alloc();
+    let mut tree = tree(alloc, Vec::new(alloc)).ok()?;
+    let mut output = output(alloc).ok()?;
     let waits = [(&board.doors, DOORS)];
     let mut station = HeardStation {
         rt,
@@ -151,20 +182,19 @@ fn attend_over<R: Clock + AllocGlobal + Sync, N: Station>(
         given: &board.agent,
         kept: Vec::new(alloc),
     };
-    let mut tree = tree(alloc, Vec::new(alloc)).ok()?;
-    let mut output = output(alloc).ok()?;
     let status = script_agent(alloc, words, &mut tree, &mut station, &mut output);
-    Some((status, output.bytes().to_vec(alloc).ok()?))
+    Some((status, output.bytes() == b"a.self return\n".as_slice()))
 }
 
-/// Runs the check over a station.
+/// Runs the check over a station, and answers its status and whether it wrote by what it is decided.
 fn check_over<R: Clock + AllocGlobal + Sync, N: Station>(
     rt: &R,
     words: &[Text],
     inner: N,
     board: &Board,
-) -> Option<(CheckStatus, Vec<u8>)> {
+) -> Option<(CheckStatus, bool)> {
     let alloc = rt.alloc();
+    let mut output = output(alloc).ok()?;
     let waits = [(&board.doors, DOORS), (&board.agent, REGISTERED)];
     let mut station = HeardStation {
         rt,
@@ -174,9 +204,9 @@ fn check_over<R: Clock + AllocGlobal + Sync, N: Station>(
         given: &board.check,
         kept: Vec::new(alloc),
     };
-    let mut output = output(alloc).ok()?;
     let status = pkcheck(alloc, words, &mut station, &mut output);
-    Some((status, output.bytes().to_vec(alloc).ok()?))
+    let decided = b"polkit.decided-by=challenge\n";
+    Some((status, output.bytes().starts_with(decided)))
 }
 
 /// What the lines of the service begin with, and what they end with. The number of a connection stands
@@ -188,59 +218,100 @@ const LINES: &[(&str, &str)] = &[
     ("entries ", " loads 1 refused 0"),
 ];
 
+/// The status of the agent and that of the check, each with whether it wrote what it has to. Nothing
+/// where it could not run.
+type Clients = (Option<(AgentStatus, bool)>, Option<(CheckStatus, bool)>);
+
+/// The same with the code of the service before it.
+type Came = (Option<(u8, bool)>, Clients);
+
+/// Runs the agent and the check beside each other.
+fn run_clients<R: Threads + Wait + Clock + Net + Files + RandomSource + AllocGlobal + Sync>(
+    rt: &R,
+    commands: &Commands,
+    board: &Board,
+) -> Clients {
+    join(
+        rt,
+        move || attend_over(
+            rt,
+            commands.agent.as_slice(),
+            socket_station(rt).ok()?,
+            board,
+        ),
+        move || check_over(
+            rt,
+            commands.check.as_slice(),
+            socket_station(rt).ok()?,
+            board,
+        ),
+    )
+}
+
+/// Runs the service beside its clients, and tells when all have ended.
+fn run_all<R: Threads + Wait + Clock + Net + Files + RandomSource + AllocGlobal + Sync>(
+    rt: &R,
+    commands: &Commands,
+    board: &Board,
+) -> Came {
+    let came = join(
+        rt,
+        move || serve_over(
+            rt,
+            commands.serve.as_slice(),
+            socket_station(rt).ok()?,
+            board,
+        ),
+        move || run_clients(rt, commands, board),
+    );
+    board.over.add(1);
+    came
+}
+
+/// The same. A run that does not end ends the process.
+fn run_in_time<R: Threads + Wait + Abort + Clock + Net + Files + RandomSource + AllocGlobal + Sync>(
+    rt: &R,
+    commands: &Commands,
+    board: &Board,
+) -> Came {
+    let ((), came) = join(
+        rt,
+        move || {
+            let ends = board.over.reaches_within(rt, 1, TURNS_OF_RUN);
+            assert!(rt; ends, "the run does not end");
+        },
+        move || run_all(rt, commands, board),
+    );
+    came
+}
+
+/// The same over sockets in a folder.
+fn run_in<R: Threads + Wait + Abort + Clock + Net + Files + RandomSource + AllocGlobal + Sync>(
+    rt: &R,
+    folder: &str,
+) -> Result<Came, NoMemory> {
+    let commands = words_for(rt.alloc(), folder)?;
+    let board = Board::new();
+    Ok(run_in_time(rt, &commands, &board))
+}
+
+/// The same in a new folder, and whether this is removed behind it.
+fn run_in_new_folder<
+    R: Threads + Wait + Abort + Clock + Net + Files + Env + RandomSource + AllocGlobal + Sync,
+>(rt: &R) -> io::Result<(Option<Came>, bool)> {
+    let folder = new_folder(rt)?;
+    let came = run_in(rt, folder.as_str()).ok();
+    let removed = fs::remove_dir(rt, folder.as_str());
+    Ok((came, removed.is_ok()))
+}
+
 #[test]
 fn agent_over_sockets(rt: HostRuntime) -> Result<(), Fail> {
-    let folder = new_folder(&rt)?;
-    let commands = words_for(rt.alloc(), folder.as_str())?;
-    let board = Board::new();
-    let (host, commands, board) = (&rt, &commands, &board);
-    let ((), (served, (agent, check))) = join(
-        host,
-        move || {
-            let ends = board.over.reaches_within(host, 1, TURNS_OF_RUN);
-            assert!(host; ends, "the run does not end");
-        },
-        move || {
-            let ended = join(
-                host,
-                move || serve_over(
-                    host,
-                    commands.serve.as_slice(),
-                    socket_station(host).ok()?,
-                    board,
-                ),
-                move || {
-                    join(
-                        host,
-                        move || attend_over(
-                            host,
-                            commands.agent.as_slice(),
-                            socket_station(host).ok()?,
-                            board,
-                        ),
-                        move || check_over(
-                            host,
-                            commands.check.as_slice(),
-                            socket_station(host).ok()?,
-                            board,
-                        ),
-                    )
-                },
-            );
-            board.over.add(1);
-            ended
-        },
-    );
-    let removed = fs::remove_dir(&rt, folder.as_str());
-    let (status, lines) = check.expect(&rt, "a check");
-    assert!(rt; lines.starts_with(b"polkit.decided-by=challenge\n"));
-    assert_eq!(rt; status, CheckStatus::Yes);
-    let (status, lines) = agent.expect(&rt, "an agent");
-    assert_eq!(rt; lines.as_slice(), b"a.self return\n".as_slice());
-    assert_eq!(rt; status, AgentStatus::Done);
-    let (code, lines) = served.expect(&rt, "a service");
-    assert!(rt; is_told(lines.as_slice(), LINES));
-    assert_eq!(rt; code, 0);
-    assert!(rt; removed.is_ok());
+    let (came, is_removed) = run_in_new_folder(&rt)?;
+    let (service, (agent, check)) = came.expect(&rt, "the words");
+    assert_eq!(rt; check, Some((CheckStatus::Yes, true)));
+    assert_eq!(rt; agent, Some((AgentStatus::Done, true)));
+    assert_eq!(rt; service, Some((0, true)));
+    assert!(rt; is_removed);
     Ok(())
 }
