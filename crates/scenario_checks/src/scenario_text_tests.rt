@@ -463,15 +463,26 @@ fn draft_shown(alloc: Global, step: &Step) -> Result<String, AllocError> {
     }
 }
 
+fn step_shown(alloc: Global, step: &Step) -> Result<String, AllocError> {
+    match step {
+        Step::Blank => String::from_str(alloc, "blank"),
+        Step::At { t } => format!(in alloc; "at {t}"),
+        Step::Reload => String::from_str(alloc, "reload"),
+        Step::Act { caller, event } => event_shown(alloc, *caller, event),
+        step => draft_shown(alloc, step),
+    }
+}
+
 fn shown(alloc: Global, line: &[u8]) -> Result<String, AllocError> {
     match read_line(alloc, line, 7) {
+        Ok(step) => step_shown(alloc, &step),
         Err(fault) => format!(in alloc; "{fault}"),
-        Ok(Step::Blank) => String::from_str(alloc, "blank"),
-        Ok(Step::At { t }) => format!(in alloc; "at {t}"),
-        Ok(Step::Reload) => String::from_str(alloc, "reload"),
-        Ok(Step::Act { caller, event }) => event_shown(alloc, caller, &event),
-        Ok(step) => draft_shown(alloc, &step),
     }
+}
+
+fn long_shown(alloc: Global, row: &LongRow) -> Result<String, AllocError> {
+    let line = long_line(alloc, row)?;
+    shown(alloc, line.as_slice())
 }
 
 #[test]
@@ -487,9 +498,8 @@ fn lines_are_read(rt: HostRuntime) -> Result<(), Fail> {
 #[test]
 fn long_lines_are_read(rt: HostRuntime) -> Result<(), Fail> {
     for row in LONG_LINES.iter() {
-        let line = long_line(rt.alloc(), row)?;
-        let said = shown(rt.alloc(), line.as_slice())?;
         let (front, _, _, _, want) = *row;
+        let said = long_shown(rt.alloc(), row)?;
         assert_eq!(rt; said.as_str(), want, "at {front}");
     }
     Ok(())
