@@ -3,7 +3,7 @@ use crate::clients::GREETING;
 use crate::flaws::Flaw;
 use crate::messages::bytes_of;
 use authority_core::Authority;
-use authority_model::Event;
+use authority_model::{Entry, Event};
 use std::alloc::Global;
 
 /// What a history says of one connection.
@@ -21,15 +21,27 @@ pub struct Account {
     pub messages: Vec<u8>,
 }
 
+/// Puts the message with this serial to a connection behind others.
+fn push_message(
+    alloc: Global,
+    authority: &Authority,
+    number: u32,
+    serial: u32,
+    bytes: &mut Vec<u8>,
+) -> Result<(), Flaw> {
+    let Some(output) = authority.output_to(number, serial) else {
+        return Err(Flaw::Unsendable);
+    };
+    let message = bytes_of(alloc, output, authority.history(), serial)?;
+    bytes.extend_from_slice(message.as_slice())?;
+    Ok(())
+}
+
 /// The messages to a connection, with the serials 1, 2, and so on.
 fn messages_to(alloc: Global, authority: &Authority, number: u32) -> Result<Vec<u8>, Flaw> {
     let mut bytes = Vec::new(alloc);
     for serial in 1..=authority.sent_count(number) {
-        let Some(output) = authority.output_to(number, serial) else {
-            return Err(Flaw::Unsendable);
-        };
-        let message = bytes_of(alloc, output, authority.history(), serial)?;
-        bytes.extend_from_slice(message.as_slice())?;
+        push_message(alloc, authority, number, serial, &mut bytes)?;
     }
     Ok(bytes)
 }
@@ -49,20 +61,27 @@ impl Account {
         Ok(())
     }
 
+    /// Notes the events of the connection among these entries.
+    fn note_all(&mut self, entries: &[Entry], number: u32) -> Result<(), Flaw> {
+        for entry in entries {
+            if entry.caller == number {
+                self.note(&entry.event)?;
+            }
+        }
+        Ok(())
+    }
+
     /// What an authority's history says of a connection.
     pub fn of(alloc: Global, authority: &Authority, number: u32) -> Result<Account, Flaw> {
+        let messages = messages_to(alloc, authority, number)?;
         let mut account = Account {
             uid: None,
             calls: Vec::new(alloc),
             returns: 0,
             others: 0,
-            messages: messages_to(alloc, authority, number)?,
+            messages,
         };
-        for entry in authority.history().entries.as_slice() {
-            if entry.caller == number {
-                account.note(&entry.event)?;
-            }
-        }
+        account.note_all(authority.history().entries.as_slice(), number)?;
         Ok(account)
     }
 

@@ -26,6 +26,8 @@ pub fn attend<R: Clock + Sync, N: Station>(
     board: &Board,
 ) -> Result<Attended, Flaw> {
     wait(rt, &board.doors, 1)?;
+    let mut tree = tree(alloc, Vec::new(alloc))?;
+    let mut output = output(alloc)?;
     let mut station = HeardStation {
         rt,
         alloc,
@@ -34,8 +36,6 @@ pub fn attend<R: Clock + Sync, N: Station>(
         given: &board.agent,
         kept: Vec::new(alloc),
     };
-    let mut tree = tree(alloc, Vec::new(alloc))?;
-    let mut output = output(alloc)?;
     let status = script_agent(alloc, words, &mut tree, &mut station, &mut output);
     Ok(Attended {
         status,

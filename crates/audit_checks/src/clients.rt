@@ -85,11 +85,15 @@ impl Talk {
         }
     }
 
-    /// Sends the calls from this number to that one, which is not among them, and reads until there
-    /// are so many replies and signals.
-    fn asks(&mut self, client: usize, from: u32, to: u32, due: Came) -> Result<(), Flaw> {
+    /// Sends the calls from this number to that one, which is not among them.
+    fn send_calls(&self, client: usize, from: u32, to: u32) -> Result<(), Flaw> {
         let calls = calls_of(self.alloc, client, from, to)?;
-        self.send(calls.as_slice())?;
+        self.send(calls.as_slice())
+    }
+
+    /// The same, and reads until there are so many replies and signals.
+    fn asks(&mut self, client: usize, from: u32, to: u32, due: Came) -> Result<(), Flaw> {
+        self.send_calls(client, from, to)?;
         for _turn in 0..MAX_READS {
             let came = count_came(self.read.as_slice());
             if came.replies >= due.replies && came.signals >= due.signals {
@@ -131,10 +135,27 @@ fn meet<R: Clock>(rt: &R, count: &Count) -> Result<(), Flaw> {
     wait(rt, count, CLIENTS as u64)
 }
 
-/// Sends the calls of a client, and answers all that it was sent.
+/// Sends the calls of a client, and reads all that it is sent.
 ///
 /// The first call is answered before any client sends its second one, and all others are before any
 /// client sends its last one.
+fn talk_to_end<R: Clock>(
+    rt: &R,
+    talk: &mut Talk,
+    client: usize,
+    board: &Board,
+) -> Result<(), Flaw> {
+    talk.send(shake_of(client))?;
+    talk.asks(client, 1, 2, due(1, 0))?;
+    meet(rt, &board.begun)?;
+    talk.asks(client, 2, CALLS, due(CALLS - 1, SIGNALS))?;
+    meet(rt, &board.nearly)?;
+    talk.asks(client, CALLS, CALLS + 1, due(CALLS, SIGNALS))?;
+    talk.ends()
+}
+
+/// Sends the calls of a client once the service and its agent are there, and answers all that it was
+/// sent.
 pub fn run_client<R: Net + Clock>(
     rt: &R,
     alloc: Global,
@@ -152,13 +173,7 @@ pub fn run_client<R: Net + Clock>(
         stream,
         read: Vec::new(alloc),
     };
-    talk.send(shake_of(client))?;
-    talk.asks(client, 1, 2, due(1, 0))?;
-    meet(rt, &board.begun)?;
-    talk.asks(client, 2, CALLS, due(CALLS - 1, SIGNALS))?;
-    meet(rt, &board.nearly)?;
-    talk.asks(client, CALLS, CALLS + 1, due(CALLS, SIGNALS))?;
-    talk.ends()?;
+    talk_to_end(rt, &mut talk, client, board)?;
     Ok(talk.read)
 }
 

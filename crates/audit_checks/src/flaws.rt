@@ -29,6 +29,10 @@ pub enum Flaw {
     Unsendable,
     /// A slot did not serve just one connection to its end.
     Unserved,
+    /// The agent or its helper has no account.
+    NoAccounts,
+    /// The agent has not had its two links.
+    NoLinks,
 }
 
 impl From<NoMemory> for Flaw {

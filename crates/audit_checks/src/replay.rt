@@ -2,7 +2,7 @@
 use crate::flaws::Flaw;
 use crate::messages::are_same;
 use authority_core::Authority;
-use authority_model::{Entry, Event, History, Limits, Loaded};
+use authority_model::{Entry, Event, History, Loaded};
 use pk_types::TryCopy;
 use std::alloc::Global;
 
@@ -15,6 +15,11 @@ fn load_of(loads: &[Loaded], number: u32) -> Option<&Loaded> {
     loads.get(before as usize)
 }
 
+/// Whether what was handed in was entered.
+fn is_entered<T: Drop, E: Drop>(answer: Result<T, E>) -> bool {
+    answer.is_ok()
+}
+
 /// Hands in the event of an entry, and answers whether it was entered.
 fn hand_in(again: &mut Authority, entry: &Entry, loads: &[Loaded]) -> Result<bool, Flaw> {
     if entry.moment > GREATEST_MOMENT {
@@ -22,20 +27,23 @@ fn hand_in(again: &mut Authority, entry: &Entry, loads: &[Loaded]) -> Result<boo
     }
     match entry.event {
         Event::Load { load } => match load_of(loads, load) {
-            Some(loaded) => {
-                let loaded = loaded.try_copy()?;
-                Ok(again.load(entry.caller, entry.moment, loaded).is_ok())
-            }
+            Some(loaded) => hand_in_load(again, entry, loaded),
             None => Ok(false),
         },
         Event::Collect { of } => {
-            if !again.ready(entry.caller, of) {
-                return Ok(false);
-            }
-            Ok(again.collect(entry.caller, of).is_ok())
+            Ok(again.ready(entry.caller, of) && is_entered(again.collect(entry.caller, of)))
         }
         _ => hand_in_step(again, entry),
     }
+}
+
+/// The same for a load.
+fn hand_in_load(again: &mut Authority, entry: &Entry, loaded: &Loaded) -> Result<bool, Flaw> {
+    if entry.moment > GREATEST_MOMENT {
+        return Ok(false);
+    }
+    let loaded = loaded.try_copy()?;
+    Ok(is_entered(again.load(entry.caller, entry.moment, loaded)))
 }
 
 /// The same for an event that is handed in by a step.
@@ -47,11 +55,7 @@ fn hand_in_step(again: &mut Authority, entry: &Entry) -> Result<bool, Flaw> {
     if !event.is_stepped() {
         return Ok(false);
     }
-    Ok(
-        again
-            .step(entry.caller, entry.moment, entry.salt, event)
-            .is_ok(),
-    )
+    Ok(is_entered(again.step(entry.caller, entry.moment, entry.salt, event)))
 }
 
 /// Whether the last entry is that of another history: with the same caller, moment, salt and outputs.
@@ -76,17 +80,16 @@ fn ends_alike(
     )
 }
 
-/// A new authority that was handed in each event of a journal, in order. Each answer is the same.
-pub fn replay(alloc: Global, history: &History) -> Result<Authority, Flaw> {
-    let mut again = Authority::start(alloc, Limits::GREATEST)?;
+/// Hands in each event of a journal, in order. Each answer is the same.
+pub fn replay(alloc: Global, again: &mut Authority, history: &History) -> Result<(), Flaw> {
     for entry in history.entries.as_slice() {
         let place = again.history().entries.len() as u64;
-        if !hand_in(&mut again, entry, history.loads.as_slice())? {
+        if !hand_in(again, entry, history.loads.as_slice())? {
             return Err(Flaw::Refused { place });
         }
         if !ends_alike(alloc, again.history(), entry, history)? {
             return Err(Flaw::Differs { place });
         }
     }
-    Ok(again)
+    Ok(())
 }

@@ -1,6 +1,8 @@
 // The service, from its first load to its closed journal.
-ghost use Rattle.std.specs.Prelude.{◌≡◌};
+ghost use Rattle.std.specs.Prelude.{◌≡◌, [], None, OnOk};
 ghost use Rattle.authority_model.specs.Entering.{AreAllowed};
+ghost use Rattle.authority_model.specs.Peers.{uid_of};
+ghost use Rattle.shared_authority.specs.Journals.{past_of};
 
 use crate::board::Board;
 use crate::flaws::Flaw;
@@ -8,10 +10,11 @@ use crate::slots::{Paths, open_slots};
 use authority_core::Authority;
 use authority_model::Limits;
 use connection_serve::End;
-use history_lock::{Opened, TableName, open_table};
-use pk_outside::Station;
+use history_lock::{Opened, Pass, TableName, open_table};
+use pk_outside::{ListTree, Station};
+use pk_types::Text;
 use policy_load::load;
-use service_slots::{EndedService, serve_beside_loader, shut_slot};
+use service_slots::{EndedService, ShutSlot, Slot, serve_beside_loader, shut_slot};
 use shared_authority::{Kept, LimitsName, Shared};
 use std::alloc::Global;
 use std::marker::Brand;
@@ -37,14 +40,27 @@ pub fn serve_over<R: Threads + Wait + Sync, N: Station>(
     mut station: N,
     board: &Board,
 ) -> Result<Served, Flaw> {
-    serve_limited::<Brand, N, R>(rt, alloc, Limits::GREATEST, paths, &mut station, board)
+    let root = text(alloc, ROOT)?;
+    let mut tree = tree(alloc, Vec::new(alloc))?;
+    serve_limited::<Brand, N, R>(
+        rt,
+        alloc,
+        Limits::GREATEST,
+        &root,
+        &mut tree,
+        paths,
+        &mut station,
+        board,
+    )
 }
 
-/// The same, within limits that have a name.
+/// The same, within limits that have a name, with a tree of files below a root.
 fn serve_limited<L: LimitsName + Send + Sync, N: Station, R: Threads + Wait + Sync>(
     rt: &R,
     alloc: Global,
     limits: Limits,
+    root: &Text,
+    tree: &mut ListTree,
     paths: &Paths,
     station: &mut N,
     board: &Board,
@@ -53,7 +69,7 @@ fn serve_limited<L: LimitsName + Send + Sync, N: Station, R: Threads + Wait + Sy
     requires limits { limits ≡ L.limits }
 {
     let opened = open_table::<Kept<L>>(alloc)?;
-    serve_tabled::<L, Brand, N, R>(rt, alloc, limits, opened, paths, station, board)
+    serve_tabled::<L, Brand, N, R>(rt, alloc, limits, opened, root, tree, paths, station, board)
 }
 
 /// The same, over a table that has a name.
@@ -67,6 +83,8 @@ fn serve_tabled<
     alloc: Global,
     limits: Limits,
     opened: Opened<Kept<L>>,
+    root: &Text,
+    tree: &mut ListTree,
     paths: &Paths,
     station: &mut N,
     board: &Board,
@@ -75,27 +93,43 @@ fn serve_tabled<
     requires limits { limits ≡ L.limits }
     requires table { opened ≡ T.table }
 {
-    let root = text(alloc, ROOT)?;
-    let mut tree = tree(alloc, Vec::new(alloc))?;
-    let Ok(first) = load(alloc, &mut tree, &root) else {
-        return Err(Flaw::NoLoad);
-    };
     let (shared, mut zero) = Shared::<L, T>::start(alloc, limits, opened)?;
-    let mut control = begin(rt, &shared, &mut zero, first).ok_or(Flaw::NoPass)?;
+    let mut control = begin_loaded(rt, alloc, &shared, &mut zero, root, tree)?;
     let slots = open_slots(rt, alloc, &shared, &mut control, station, paths)?;
     board.doors.add(1);
     let ended = serve_beside_loader(
         rt,
         alloc,
         &shared,
-        &root,
+        root,
         Some(1),
-        &mut tree,
+        tree,
         zero,
         control,
         slots,
     );
     close(alloc, shared, station, ended)
+}
+
+/// Enters the first load, that of the tree, and makes the pass of the slots.
+fn begin_loaded<L: LimitsName, T: TableName, R: Threads + Wait + Sync>(
+    rt: &R,
+    alloc: Global,
+    shared: &Shared<L, T>,
+    zero: &mut Pass<Kept<L>, T>,
+    root: &Text,
+    tree: &mut ListTree,
+) -> Result<Pass<Kept<L>, T>, Flaw>
+    requires zero { zero.old.number ≡ 0 }
+    requires empty { zero.old.history ≡ [] }
+    ensures zero { OnOk result (zero.new.number ≡ 0) }
+    ensures fresh { OnOk result (uid_of (past_of zero.new.history) 0 ≡ None) }
+{
+    let Ok(first) = load(alloc, tree, root) else {
+        return Err(Flaw::NoLoad);
+    };
+    let control = begin(rt, shared, zero, first).ok_or(Flaw::NoPass)?;
+    Ok(control)
 }
 
 /// Shuts the slots, and closes the journal.
@@ -113,17 +147,33 @@ fn close<L: LimitsName, T: TableName, N: Station>(
         stopped: _,
         slots,
     } = ended;
+    let numbers = shut_all(alloc, &shared, &mut control, station, slots)?;
+    shared.meet(&mut control, &mut zero);
+    let authority = shared.close(control);
+    Ok(Served { authority, numbers })
+}
+
+/// Shuts the slots, and answers the numbers of the connections that they served.
+fn shut_all<L: LimitsName, T: TableName, N: Station>(
+    alloc: Global,
+    shared: &Shared<L, T>,
+    control: &mut Pass<Kept<L>, T>,
+    station: &mut N,
+    slots: Vec<Slot<L, T, N::Door, N::Clock, N::Salt>>,
+) -> Result<Vec<u32>, Flaw> {
     let mut numbers = Vec::new(alloc);
     for slot in slots {
-        let shut = shut_slot(&shared, &mut control, station, slot);
-        match shut.lines.as_slice() {
-            [line] if line.end == End::Done => numbers.push(line.number)?,
-            _ => return Err(Flaw::Unserved),
-        }
+        let shut = shut_slot(shared, control, station, slot);
+        push_number(&shut, &mut numbers)?;
     }
-    shared.meet(&mut control, &mut zero);
-    Ok(Served {
-        authority: shared.close(control),
-        numbers,
-    })
+    Ok(numbers)
+}
+
+/// Puts the number of the one connection that a slot served to its end behind others.
+fn push_number(shut: &ShutSlot, numbers: &mut Vec<u32>) -> Result<(), Flaw> {
+    match shut.lines.as_slice() {
+        [line] if line.end == End::Done => numbers.push(line.number)?,
+        _ => return Err(Flaw::Unserved),
+    }
+    Ok(())
 }

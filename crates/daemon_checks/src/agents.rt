@@ -405,8 +405,8 @@ pub fn row_difference<R: Threads + Wait + Sync>(
 
 #[test]
 fn agents_are_asked(rt: HostRuntime) -> Result<(), Fail> {
-    for row in &ROWS {
-        assert_eq!(rt; row_difference(&rt, rt.alloc(), row)?, "", "{}", row.0);
+    for row in ROWS {
+        assert_eq!(rt; row_difference(&rt, rt.alloc(), &row)?, "", "{}", row.0);
     }
     Ok(())
 }

@@ -166,8 +166,8 @@ const ROWS: [Row; 16] = [
 
 #[test]
 fn rules_decide(rt: HostRuntime) -> Result<(), Fail> {
-    for row in &ROWS {
-        assert_eq!(rt; row_difference(&rt, rt.alloc(), row)?, "", "{}", row.0);
+    for row in ROWS {
+        assert_eq!(rt; row_difference(&rt, rt.alloc(), &row)?, "", "{}", row.0);
     }
     Ok(())
 }

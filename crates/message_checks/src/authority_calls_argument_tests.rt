@@ -4,9 +4,10 @@ use crate::authority_calls_tests::{
 };
 use authority_calls::*;
 use authority_model::{Call, ErrorCause, Event};
-use dbus_values::{Next, next_message};
+use dbus_values::{Next, WireMessage, next_message};
 use pk_types::{NoMemory, Subject};
 use std::alloc::{AllocError, Global};
+use std::test::Fail;
 
 /// A call of CheckAuthorization for process 51 with the action `a.yes`, little-endian.
 const LITTLE: [u8; 265] = [
@@ -80,13 +81,16 @@ fn is_worked_event(event: &Event) -> bool {
     }
 }
 
+/// Whether a message asks whether process 51 may do `a.yes`.
+fn is_worked_message(alloc: Global, message: &WireMessage) -> Result<bool, NoMemory> {
+    let event = event_of(alloc, message)?;
+    Ok(is_worked_event(&event))
+}
+
 /// Whether the bytes are a message that asks whether process 51 may do `a.yes`.
 fn asks_worked(alloc: Global, bytes: &[u8]) -> Result<bool, NoMemory> {
     match next_message(bytes) {
-        Next::Whole { message, .. } => {
-            let event = event_of(alloc, &message)?;
-            Ok(is_worked_event(&event))
-        }
+        Next::Whole { message, .. } => is_worked_message(alloc, &message),
         Next::Partial => Ok(false),
         Next::Bad { .. } => Ok(false),
     }
@@ -166,21 +170,22 @@ fn unregistered(alloc: Global, path: &str) -> Result<Asked, NoMemory> {
     )
 }
 
+/// The path of an agent, and what its registration and the end of that ask.
+const AGENTS: [(&str, Asked, Asked); 4] = [
+    ("/a", Asked::Register, Asked::Unregister),
+    ("/", Asked::Register, Asked::Unregister),
+    ("a", WRONG, WRONG),
+    ("/a/", WRONG, WRONG),
+];
+
 /// The path of an agent is an object path.
 #[test]
-fn agents(rt: HostRuntime) {
-    let rows = [
-        ("/a", Asked::Register, Asked::Unregister),
-        ("/", Asked::Register, Asked::Unregister),
-        ("a", WRONG, WRONG),
-        ("/a/", WRONG, WRONG),
-    ];
-    for (path, beginning, end) in rows {
-        let found = registered(rt.alloc(), path).expect(&rt, "memory");
-        assert!(rt; found == beginning, "{path}");
-        let found = unregistered(rt.alloc(), path).expect(&rt, "memory");
-        assert!(rt; found == end, "{path}");
+fn agents(rt: HostRuntime) -> Result<(), Fail> {
+    for (path, beginning, end) in &AGENTS {
+        assert!(rt; registered(rt.alloc(), path)? == *beginning, "{path}");
+        assert!(rt; unregistered(rt.alloc(), path)? == *end, "{path}");
     }
+    Ok(())
 }
 
 /// A cookie and an identity.
@@ -213,24 +218,30 @@ fn responded(
     )
 }
 
+const UID: (&str, Given) = ("uid", Given::Number(5));
+
+const GID: (&str, Given) = ("gid", Given::Number(5));
+
+/// The kind of an identity, its dictionary, and what an answer to a challenge with it asks.
+type IdentityRow = (&'static str, &'static [(&'static str, Given)], Asked);
+
+const IDENTITIES: [IdentityRow; 7] = [
+    ("unix-user", &[GID, UID, GID], Asked::Respond),
+    ("unix-group", &[GID], Asked::Respond),
+    ("unix-user", &[GID], WRONG),
+    ("unix-user", &[UID, UID], WRONG),
+    ("unix-user", &[("uid", Given::Long(5))], WRONG),
+    ("unix-netgroup", &[UID, GID], WRONG),
+    ("unix-process", &[UID], WRONG),
+];
+
 /// Users and groups, and kinds that are none.
 #[test]
-fn identities(rt: HostRuntime) {
-    let uid = ("uid", Given::Number(5));
-    let gid = ("gid", Given::Number(5));
-    let rows: [(&'static str, &[(&'static str, Given)], Asked); 7] = [
-        ("unix-user", &[gid, uid, gid], Asked::Respond),
-        ("unix-group", &[gid], Asked::Respond),
-        ("unix-user", &[gid], WRONG),
-        ("unix-user", &[uid, uid], WRONG),
-        ("unix-user", &[("uid", Given::Long(5))], WRONG),
-        ("unix-netgroup", &[uid, gid], WRONG),
-        ("unix-process", &[uid], WRONG),
-    ];
-    for (kind, entries, wanted) in rows {
-        let found = responded(rt.alloc(), kind, entries).expect(&rt, "memory");
-        assert!(rt; found == wanted, "{kind}");
+fn identities(rt: HostRuntime) -> Result<(), Fail> {
+    for (kind, entries, wanted) in &IDENTITIES {
+        assert!(rt; responded(rt.alloc(), kind, entries)? == *wanted, "{kind}");
     }
+    Ok(())
 }
 
 /// The number of a process and its start.

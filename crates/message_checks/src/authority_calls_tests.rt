@@ -1,7 +1,7 @@
 // Messages from a connection, and what they ask.
 use authority_calls::*;
 use authority_model::{Call, ErrorCause, Event};
-use dbus_values::{Next, next_message};
+use dbus_values::{Next, WireMessage, next_message};
 use pk_types::{Identity, NoMemory, Subject};
 use std::alloc::{AllocError, Global};
 use std::test::Fail;
@@ -136,14 +136,17 @@ fn in_short(event: &Event) -> Asked {
     }
 }
 
+/// What a whole message asks.
+fn asked_in(alloc: Global, message: &WireMessage) -> Result<Asked, NoMemory> {
+    let event = event_of(alloc, message)?;
+    Ok(in_short(&event))
+}
+
 /// What a message asks.
 pub fn what_is_asked(alloc: Global, sent: &Sent) -> Result<Asked, NoMemory> {
     let bytes = bytes_of(alloc, sent)?;
     match next_message(&bytes) {
-        Next::Whole { message, .. } => {
-            let event = event_of(alloc, &message)?;
-            Ok(in_short(&event))
-        }
+        Next::Whole { message, .. } => asked_in(alloc, &message),
         Next::Partial => Ok(Asked::Nothing),
         Next::Bad { .. } => Ok(Asked::Nothing),
     }
@@ -239,209 +242,203 @@ fn asked_of(
     what_is_asked(alloc, &sent)
 }
 
+const INVALID: Asked = Asked::Wrong(ErrorCause::InvalidArgs);
+
+const UNKNOWN: Asked = Asked::Wrong(ErrorCause::UnknownMethod);
+
+/// A method, the signature and the body of its call, and what that asks.
+type MethodRow = (&'static str, &'static str, &'static [u8], Asked);
+
+const METHODS: [MethodRow; 12] = [
+    ("CancelCheckAuthorization", "s", TEXT, Asked::Cancel),
+    ("EnumerateActions", "s", TEXT, Asked::Actions),
+    (
+        "RevokeTemporaryAuthorizationById",
+        "s",
+        TEXT,
+        Asked::RevokeOne,
+    ),
+    ("CancelCheckAuthorization", "", b"", INVALID),
+    ("CheckAuthorization", "s", TEXT, INVALID),
+    ("RegisterAuthenticationAgent", "s", TEXT, INVALID),
+    ("UnregisterAuthenticationAgent", "s", TEXT, INVALID),
+    ("AuthenticationAgentResponse", "s", TEXT, INVALID),
+    ("EnumerateTemporaryAuthorizations", "s", TEXT, INVALID),
+    ("RevokeTemporaryAuthorizations", "s", TEXT, INVALID),
+    ("Announce", "s", TEXT, UNKNOWN),
+    ("CheckAuthorizatioN", "s", TEXT, UNKNOWN),
+];
+
+/// Whether the call of a method asks what its row says.
+fn is_method_asked(alloc: Global, row: &MethodRow) -> Result<bool, NoMemory> {
+    let (member, signature, body, wanted) = *row;
+    let sent = Sent {
+        kind: 1,
+        flags: 0,
+        path: AUTHORITY_PATH,
+        interface: AUTHORITY,
+        member,
+        signature,
+        body,
+    };
+    Ok(what_is_asked(alloc, &sent)? == wanted)
+}
+
 /// The methods with their arguments, and with others.
 #[test]
-fn methods_and_signatures(rt: HostRuntime) {
-    let rows = [
-        ("CancelCheckAuthorization", "s", TEXT, Asked::Cancel),
-        ("EnumerateActions", "s", TEXT, Asked::Actions),
-        (
-            "RevokeTemporaryAuthorizationById",
-            "s",
-            TEXT,
-            Asked::RevokeOne,
-        ),
-        (
-            "CancelCheckAuthorization",
-            "",
-            b"".as_slice(),
-            Asked::Wrong(ErrorCause::InvalidArgs),
-        ),
-        (
-            "CheckAuthorization",
-            "s",
-            TEXT,
-            Asked::Wrong(ErrorCause::InvalidArgs),
-        ),
-        (
-            "RegisterAuthenticationAgent",
-            "s",
-            TEXT,
-            Asked::Wrong(ErrorCause::InvalidArgs),
-        ),
-        (
-            "UnregisterAuthenticationAgent",
-            "s",
-            TEXT,
-            Asked::Wrong(ErrorCause::InvalidArgs),
-        ),
-        (
-            "AuthenticationAgentResponse",
-            "s",
-            TEXT,
-            Asked::Wrong(ErrorCause::InvalidArgs),
-        ),
-        (
-            "EnumerateTemporaryAuthorizations",
-            "s",
-            TEXT,
-            Asked::Wrong(ErrorCause::InvalidArgs),
-        ),
-        (
-            "RevokeTemporaryAuthorizations",
-            "s",
-            TEXT,
-            Asked::Wrong(ErrorCause::InvalidArgs),
-        ),
-        (
-            "Announce",
-            "s",
-            TEXT,
-            Asked::Wrong(ErrorCause::UnknownMethod),
-        ),
-        (
-            "CheckAuthorizatioN",
-            "s",
-            TEXT,
-            Asked::Wrong(ErrorCause::UnknownMethod),
-        ),
-    ];
-    for (member, signature, body, wanted) in rows {
-        let sent = Sent {
-            kind: 1,
-            flags: 0,
-            path: AUTHORITY_PATH,
-            interface: AUTHORITY,
-            member,
-            signature,
-            body,
-        };
-        let found = what_is_asked(rt.alloc(), &sent).expect(&rt, "memory");
-        assert!(rt; found == wanted, "{member} {signature}");
+fn methods_and_signatures(rt: HostRuntime) -> Result<(), Fail> {
+    for row in &METHODS {
+        assert!(rt; is_method_asked(rt.alloc(), row)?, "{} {}", row.0, row.1);
     }
+    Ok(())
+}
+
+/// An object, an interface or none, a method, and what its call with a text asks.
+type ObjectRow = (&'static str, &'static str, &'static str, Asked);
+
+const OBJECTS: [ObjectRow; 7] = [
+    (AUTHORITY_PATH, "", "EnumerateActions", Asked::Actions),
+    (AUTHORITY_PATH, PROFILE, "EnumerateActions", UNKNOWN),
+    (AUTHORITY_PATH, "a.b", "EnumerateActions", UNKNOWN),
+    (AUTHORITY_PATH, AUTHORITY, "Reload", UNKNOWN),
+    (AUTHORITY_PATH, PROFILE, "Reload", INVALID),
+    (
+        "/a",
+        AUTHORITY,
+        "EnumerateActions",
+        Asked::Wrong(ErrorCause::UnknownObject),
+    ),
+    ("/a", "a.b", "None", Asked::Wrong(ErrorCause::UnknownObject)),
+];
+
+/// Whether the call of a method at an object asks what its row says.
+fn is_object_asked(alloc: Global, row: &ObjectRow) -> Result<bool, NoMemory> {
+    let (path, interface, member, wanted) = *row;
+    let sent = Sent {
+        kind: 1,
+        flags: 0,
+        path,
+        interface,
+        member,
+        signature: "s",
+        body: TEXT,
+    };
+    Ok(what_is_asked(alloc, &sent)? == wanted)
 }
 
 /// Other objects and interfaces, and a call without an interface.
 #[test]
-fn objects_and_interfaces(rt: HostRuntime) {
-    let rows = [
-        (AUTHORITY_PATH, "", "EnumerateActions", Asked::Actions),
-        (
-            AUTHORITY_PATH,
-            PROFILE,
-            "EnumerateActions",
-            Asked::Wrong(ErrorCause::UnknownMethod),
-        ),
-        (
-            AUTHORITY_PATH,
-            "a.b",
-            "EnumerateActions",
-            Asked::Wrong(ErrorCause::UnknownMethod),
-        ),
-        (
-            AUTHORITY_PATH,
-            AUTHORITY,
-            "Reload",
-            Asked::Wrong(ErrorCause::UnknownMethod),
-        ),
-        (
-            AUTHORITY_PATH,
-            PROFILE,
-            "Reload",
-            Asked::Wrong(ErrorCause::InvalidArgs),
-        ),
-        (
-            "/a",
-            AUTHORITY,
-            "EnumerateActions",
-            Asked::Wrong(ErrorCause::UnknownObject),
-        ),
-        ("/a", "a.b", "None", Asked::Wrong(ErrorCause::UnknownObject)),
-    ];
-    for (path, interface, member, wanted) in rows {
-        let sent = Sent {
-            kind: 1,
-            flags: 0,
-            path,
-            interface,
-            member,
-            signature: "s",
-            body: TEXT,
-        };
-        let found = what_is_asked(rt.alloc(), &sent).expect(&rt, "memory");
-        assert!(rt; found == wanted, "{path} {interface} {member}");
+fn objects_and_interfaces(rt: HostRuntime) -> Result<(), Fail> {
+    for row in &OBJECTS {
+        let (path, interface, member, _) = *row;
+        assert!(rt;
+            is_object_asked(rt.alloc(), row)?,
+            "{path} {interface} {member}"
+        );
     }
+    Ok(())
+}
+
+/// The type of a message, its flags, and what it asks or tells.
+type KindRow = (u8, u8, Asked);
+
+const KINDS: [KindRow; 8] = [
+    (1, 0, Asked::Actions),
+    (1, 1, Asked::Quiet),
+    (1, 2, Asked::Actions),
+    (1, 3, Asked::Quiet),
+    (2, 0, Asked::Returned(7)),
+    (3, 1, Asked::Failed(7)),
+    (4, 0, Asked::Passed),
+    (5, 0, Asked::Passed),
+];
+
+/// Whether a message of a type asks what its row says.
+fn is_kind_asked(alloc: Global, row: &KindRow) -> Result<bool, NoMemory> {
+    let (kind, flags, wanted) = *row;
+    let sent = Sent {
+        kind,
+        flags,
+        path: AUTHORITY_PATH,
+        interface: AUTHORITY,
+        member: "EnumerateActions",
+        signature: "s",
+        body: TEXT,
+    };
+    Ok(what_is_asked(alloc, &sent)? == wanted)
 }
 
 /// Message types and flags: the flag NO_REPLY_EXPECTED, replies, a signal and an unknown type.
 #[test]
-fn types_and_flags(rt: HostRuntime) {
-    let rows = [
-        (1, 0, Asked::Actions),
-        (1, 1, Asked::Quiet),
-        (1, 2, Asked::Actions),
-        (1, 3, Asked::Quiet),
-        (2, 0, Asked::Returned(7)),
-        (3, 1, Asked::Failed(7)),
-        (4, 0, Asked::Passed),
-        (5, 0, Asked::Passed),
-    ];
-    for (kind, flags, wanted) in rows {
-        let sent = Sent {
-            kind,
-            flags,
-            path: AUTHORITY_PATH,
-            interface: AUTHORITY,
-            member: "EnumerateActions",
-            signature: "s",
-            body: TEXT,
-        };
-        let found = what_is_asked(rt.alloc(), &sent).expect(&rt, "memory");
-        assert!(rt; found == wanted, "{kind} {flags}");
+fn types_and_flags(rt: HostRuntime) -> Result<(), Fail> {
+    for row in &KINDS {
+        assert!(rt; is_kind_asked(rt.alloc(), row)?, "{} {}", row.0, row.1);
     }
+    Ok(())
+}
+
+/// An entry of the dictionary of a subject.
+type Entry = (&'static str, Given);
+
+const PID: Entry = ("pid", Given::Number(5));
+
+const START: Entry = ("start-time", Given::Long(6));
+
+const UID: Entry = ("uid", Given::Text("x"));
+
+/// The kind of a subject, its dictionary, and what a call with it asks.
+type SubjectRow = (&'static str, &'static [Entry], Asked);
+
+const PROCESSES: [SubjectRow; 8] = [
+    ("unix-process", &[PID, START], Asked::Grants),
+    ("unix-process", &[START, UID, PID, UID], Asked::Grants),
+    ("unix-process", &[PID], INVALID),
+    ("unix-process", &[START], INVALID),
+    ("unix-process", &[], INVALID),
+    ("unix-process", &[PID, START, PID], INVALID),
+    ("unix-process", &[PID, START, START], INVALID),
+    (
+        "unix-process",
+        &[PID, ("start-time", Given::Number(6))],
+        INVALID,
+    ),
+];
+
+/// Whether a call with a subject asks what its row says.
+fn is_subject_asked(alloc: Global, row: &SubjectRow) -> Result<bool, NoMemory> {
+    let (kind, entries, wanted) = *row;
+    Ok(asked_of(alloc, kind, entries)? == wanted)
 }
 
 /// Processes with keys in any order, lacking, of another type and repeated, and with further keys.
 #[test]
-fn processes(rt: HostRuntime) {
-    let pid = ("pid", Given::Number(5));
-    let start = ("start-time", Given::Long(6));
-    let uid = ("uid", Given::Text("x"));
-    let wrong = Asked::Wrong(ErrorCause::InvalidArgs);
-    let rows: [(&[(&'static str, Given)], Asked); 8] = [
-        (&[pid, start], Asked::Grants),
-        (&[start, uid, pid, uid], Asked::Grants),
-        (&[pid], wrong),
-        (&[start], wrong),
-        (&[], wrong),
-        (&[pid, start, pid], wrong),
-        (&[pid, start, start], wrong),
-        (&[pid, ("start-time", Given::Number(6))], wrong),
-    ];
-    for (entries, wanted) in rows {
-        let found = asked_of(rt.alloc(), "unix-process", entries).expect(&rt, "memory");
-        assert!(rt; found == wanted);
+fn processes(rt: HostRuntime) -> Result<(), Fail> {
+    for row in &PROCESSES {
+        assert!(rt; is_subject_asked(rt.alloc(), row)?);
     }
+    Ok(())
 }
+
+const ID: Entry = ("session-id", Given::Text("s1"));
+
+const NAME: Entry = ("name", Given::Text(":1.5"));
+
+const OTHER_SUBJECTS: [SubjectRow; 8] = [
+    ("unix-session", &[ID], Asked::Grants),
+    ("unix-session", &[NAME, ID], Asked::Grants),
+    ("unix-session", &[NAME], INVALID),
+    ("unix-session", &[ID, ID], INVALID),
+    ("unix-session", &[("session-id", Given::Number(1))], INVALID),
+    ("system-bus-name", &[NAME], Asked::Grants),
+    ("system-bus-name", &[NAME, NAME], INVALID),
+    ("unix-user", &[NAME, ID], INVALID),
+];
 
 /// Sessions, bus names, and a kind that is none.
 #[test]
-fn other_subjects(rt: HostRuntime) {
-    let id = ("session-id", Given::Text("s1"));
-    let name = ("name", Given::Text(":1.5"));
-    let wrong = Asked::Wrong(ErrorCause::InvalidArgs);
-    let rows: [(&'static str, &[(&'static str, Given)], Asked); 8] = [
-        ("unix-session", &[id], Asked::Grants),
-        ("unix-session", &[name, id], Asked::Grants),
-        ("unix-session", &[name], wrong),
-        ("unix-session", &[id, id], wrong),
-        ("unix-session", &[("session-id", Given::Number(1))], wrong),
-        ("system-bus-name", &[name], Asked::Grants),
-        ("system-bus-name", &[name, name], wrong),
-        ("unix-user", &[name, id], wrong),
-    ];
-    for (kind, entries, wanted) in rows {
-        let found = asked_of(rt.alloc(), kind, entries).expect(&rt, "memory");
-        assert!(rt; found == wanted, "{kind}");
+fn other_subjects(rt: HostRuntime) -> Result<(), Fail> {
+    for row in &OTHER_SUBJECTS {
+        assert!(rt; is_subject_asked(rt.alloc(), row)?, "{}", row.0);
     }
+    Ok(())
 }

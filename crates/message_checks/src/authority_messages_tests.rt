@@ -284,98 +284,100 @@ fn temporary_authorizations_are_listed(rt: HostRuntime) -> Result<(), Fail> {
     Ok(())
 }
 
+/// The first nine causes, and their errors.
+const FIRST_REFUSALS: [(ErrorCause, &[u8]); 9] = [
+    (
+        ErrorCause::IdInUse,
+        b"l\x03\x01\x01\x22\0\0\0\x02\0\0\0W\0\0\0\x04\x01s\08\0\0\0org.freedesktop.PolicyKit1.Error.CancellationIdNotUnique\0\0\0\0\0\0\0\0\x05\x01u\0\x09\0\0\0\x08\x01g\0\x01s\0\0\x1d\0\0\0The cancellation id is in use\0",
+    ),
+    (
+        ErrorCause::UnknownAction,
+        b"l\x03\x01\x01!\0\0\0\x02\0\0\0?\0\0\0\x04\x01s\0'\0\0\0org.freedesktop.PolicyKit1.Error.Failed\0\x05\x01u\0\x09\0\0\0\x08\x01g\0\x01s\0\0\x1c\0\0\0The action is not registered\0",
+    ),
+    (
+        ErrorCause::UnknownSubject,
+        b"l\x03\x01\x01\x1d\0\0\0\x02\0\0\0?\0\0\0\x04\x01s\0'\0\0\0org.freedesktop.PolicyKit1.Error.Failed\0\x05\x01u\0\x09\0\0\0\x08\x01g\0\x01s\0\0\x18\0\0\0The subject is not known\0",
+    ),
+    (
+        ErrorCause::NotTrusted,
+        b"l\x03\x01\x01/\0\0\0\x02\0\0\0G\0\0\0\x04\x01s\0.\0\0\0org.freedesktop.PolicyKit1.Error.NotAuthorized\0\0\x05\x01u\0\x09\0\0\0\x08\x01g\0\x01s\0\0*\0\0\0Only uid 0 or an action owner may ask this\0",
+    ),
+    (
+        ErrorCause::TooManyPending,
+        b"l\x03\x01\x01\x1c\0\0\0\x02\0\0\0G\0\0\0\x04\x01s\0)\0\0\0org.freedesktop.DBus.Error.LimitsExceeded\0\0\0\0\0\0\0\x05\x01u\0\x09\0\0\0\x08\x01g\0\x01s\0\0\x17\0\0\0Too many pending checks\0",
+    ),
+    (
+        ErrorCause::Cancelled,
+        b"l\x03\x01\x01\x1c\0\0\0\x02\0\0\0G\0\0\0\x04\x01s\0*\0\0\0org.freedesktop.PolicyKit1.Error.Cancelled\0\0\0\0\0\0\x05\x01u\0\x09\0\0\0\x08\x01g\0\x01s\0\0\x17\0\0\0The check was cancelled\0",
+    ),
+    (
+        ErrorCause::NoSuchId,
+        b"l\x03\x01\x01.\0\0\0\x02\0\0\0?\0\0\0\x04\x01s\0'\0\0\0org.freedesktop.PolicyKit1.Error.Failed\0\x05\x01u\0\x09\0\0\0\x08\x01g\0\x01s\0\0)\0\0\0No pending check has this cancellation id\0",
+    ),
+    (
+        ErrorCause::NotPrivileged,
+        b"l\x03\x01\x01\x1b\0\0\0\x02\0\0\0G\0\0\0\x04\x01s\0.\0\0\0org.freedesktop.PolicyKit1.Error.NotAuthorized\0\0\x05\x01u\0\x09\0\0\0\x08\x01g\0\x01s\0\0\x16\0\0\0Only uid 0 may do this\0",
+    ),
+    (
+        ErrorCause::NoSuchCookie,
+        b"l\x03\x01\x01)\0\0\0\x02\0\0\0?\0\0\0\x04\x01s\0'\0\0\0org.freedesktop.PolicyKit1.Error.Failed\0\x05\x01u\0\x09\0\0\0\x08\x01g\0\x01s\0\0$\0\0\0No pending challenge has this cookie\0",
+    ),
+];
+
 /// The error of each of the first nine causes.
 #[test]
 fn the_first_refusals_are_told(rt: HostRuntime) -> Result<(), Fail> {
-    let alloc = rt.alloc();
-    let rows: [(ErrorCause, &[u8]); 9] = [
-        (
-            ErrorCause::IdInUse,
-            b"l\x03\x01\x01\x22\0\0\0\x02\0\0\0W\0\0\0\x04\x01s\08\0\0\0org.freedesktop.PolicyKit1.Error.CancellationIdNotUnique\0\0\0\0\0\0\0\0\x05\x01u\0\x09\0\0\0\x08\x01g\0\x01s\0\0\x1d\0\0\0The cancellation id is in use\0",
-        ),
-        (
-            ErrorCause::UnknownAction,
-            b"l\x03\x01\x01!\0\0\0\x02\0\0\0?\0\0\0\x04\x01s\0'\0\0\0org.freedesktop.PolicyKit1.Error.Failed\0\x05\x01u\0\x09\0\0\0\x08\x01g\0\x01s\0\0\x1c\0\0\0The action is not registered\0",
-        ),
-        (
-            ErrorCause::UnknownSubject,
-            b"l\x03\x01\x01\x1d\0\0\0\x02\0\0\0?\0\0\0\x04\x01s\0'\0\0\0org.freedesktop.PolicyKit1.Error.Failed\0\x05\x01u\0\x09\0\0\0\x08\x01g\0\x01s\0\0\x18\0\0\0The subject is not known\0",
-        ),
-        (
-            ErrorCause::NotTrusted,
-            b"l\x03\x01\x01/\0\0\0\x02\0\0\0G\0\0\0\x04\x01s\0.\0\0\0org.freedesktop.PolicyKit1.Error.NotAuthorized\0\0\x05\x01u\0\x09\0\0\0\x08\x01g\0\x01s\0\0*\0\0\0Only uid 0 or an action owner may ask this\0",
-        ),
-        (
-            ErrorCause::TooManyPending,
-            b"l\x03\x01\x01\x1c\0\0\0\x02\0\0\0G\0\0\0\x04\x01s\0)\0\0\0org.freedesktop.DBus.Error.LimitsExceeded\0\0\0\0\0\0\0\x05\x01u\0\x09\0\0\0\x08\x01g\0\x01s\0\0\x17\0\0\0Too many pending checks\0",
-        ),
-        (
-            ErrorCause::Cancelled,
-            b"l\x03\x01\x01\x1c\0\0\0\x02\0\0\0G\0\0\0\x04\x01s\0*\0\0\0org.freedesktop.PolicyKit1.Error.Cancelled\0\0\0\0\0\0\x05\x01u\0\x09\0\0\0\x08\x01g\0\x01s\0\0\x17\0\0\0The check was cancelled\0",
-        ),
-        (
-            ErrorCause::NoSuchId,
-            b"l\x03\x01\x01.\0\0\0\x02\0\0\0?\0\0\0\x04\x01s\0'\0\0\0org.freedesktop.PolicyKit1.Error.Failed\0\x05\x01u\0\x09\0\0\0\x08\x01g\0\x01s\0\0)\0\0\0No pending check has this cancellation id\0",
-        ),
-        (
-            ErrorCause::NotPrivileged,
-            b"l\x03\x01\x01\x1b\0\0\0\x02\0\0\0G\0\0\0\x04\x01s\0.\0\0\0org.freedesktop.PolicyKit1.Error.NotAuthorized\0\0\x05\x01u\0\x09\0\0\0\x08\x01g\0\x01s\0\0\x16\0\0\0Only uid 0 may do this\0",
-        ),
-        (
-            ErrorCause::NoSuchCookie,
-            b"l\x03\x01\x01)\0\0\0\x02\0\0\0?\0\0\0\x04\x01s\0'\0\0\0org.freedesktop.PolicyKit1.Error.Failed\0\x05\x01u\0\x09\0\0\0\x08\x01g\0\x01s\0\0$\0\0\0No pending challenge has this cookie\0",
-        ),
-    ];
-    for (cause, want) in rows {
-        assert!(rt; is_answered(alloc, Answer::Refused(cause), want)?);
+    for (cause, want) in &FIRST_REFUSALS {
+        assert!(rt; is_answered(rt.alloc(), Answer::Refused(*cause), want)?);
     }
     Ok(())
 }
 
+/// The last nine causes, and their errors.
+const LAST_REFUSALS: [(ErrorCause, &[u8]); 9] = [
+    (
+        ErrorCause::NotOffered,
+        b"l\x03\x01\x01!\0\0\0\x02\0\0\0?\0\0\0\x04\x01s\0'\0\0\0org.freedesktop.PolicyKit1.Error.Failed\0\x05\x01u\0\x09\0\0\0\x08\x01g\0\x01s\0\0\x1c\0\0\0The identity was not offered\0",
+    ),
+    (
+        ErrorCause::AgentExists,
+        b"l\x03\x01\x01+\0\0\0\x02\0\0\0?\0\0\0\x04\x01s\0'\0\0\0org.freedesktop.PolicyKit1.Error.Failed\0\x05\x01u\0\x09\0\0\0\x08\x01g\0\x01s\0\0&\0\0\0An agent is registered for the subject\0",
+    ),
+    (
+        ErrorCause::NoSuchAgent,
+        b"l\x03\x01\x01 \0\0\0\x02\0\0\0?\0\0\0\x04\x01s\0'\0\0\0org.freedesktop.PolicyKit1.Error.Failed\0\x05\x01u\0\x09\0\0\0\x08\x01g\0\x01s\0\0\x1b\0\0\0No such agent is registered\0",
+    ),
+    (
+        ErrorCause::NotYours,
+        b"l\x03\x01\x01(\0\0\0\x02\0\0\0G\0\0\0\x04\x01s\0.\0\0\0org.freedesktop.PolicyKit1.Error.NotAuthorized\0\0\x05\x01u\0\x09\0\0\0\x08\x01g\0\x01s\0\0#\0\0\0The subject belongs to another user\0",
+    ),
+    (
+        ErrorCause::NoSuchGrant,
+        b"l\x03\x01\x01$\0\0\0\x02\0\0\0?\0\0\0\x04\x01s\0'\0\0\0org.freedesktop.PolicyKit1.Error.Failed\0\x05\x01u\0\x09\0\0\0\x08\x01g\0\x01s\0\0\x1f\0\0\0No such temporary authorization\0",
+    ),
+    (
+        ErrorCause::UnknownObject,
+        b"l\x03\x01\x01\x13\0\0\0\x02\0\0\0G\0\0\0\x04\x01s\0(\0\0\0org.freedesktop.DBus.Error.UnknownObject\0\0\0\0\0\0\0\0\x05\x01u\0\x09\0\0\0\x08\x01g\0\x01s\0\0\x0e\0\0\0No such object\0",
+    ),
+    (
+        ErrorCause::UnknownMethod,
+        b"l\x03\x01\x01\x13\0\0\0\x02\0\0\0G\0\0\0\x04\x01s\0(\0\0\0org.freedesktop.DBus.Error.UnknownMethod\0\0\0\0\0\0\0\0\x05\x01u\0\x09\0\0\0\x08\x01g\0\x01s\0\0\x0e\0\0\0No such method\0",
+    ),
+    (
+        ErrorCause::InvalidArgs,
+        b"l\x03\x01\x01\x14\0\0\0\x02\0\0\0?\0\0\0\x04\x01s\0&\0\0\0org.freedesktop.DBus.Error.InvalidArgs\0\0\x05\x01u\0\x09\0\0\0\x08\x01g\0\x01s\0\0\x0f\0\0\0Wrong arguments\0",
+    ),
+    (
+        ErrorCause::BadAnnounce,
+        b"l\x03\x01\x01,\0\0\0\x02\0\0\0?\0\0\0\x04\x01s\0'\0\0\0org.freedesktop.PolicyKit1.Error.Failed\0\x05\x01u\0\x09\0\0\0\x08\x01g\0\x01s\0\0'\0\0\0The process is not listed for this user\0",
+    ),
+];
+
 /// The error of each of the last nine causes.
 #[test]
 fn the_last_refusals_are_told(rt: HostRuntime) -> Result<(), Fail> {
-    let alloc = rt.alloc();
-    let rows: [(ErrorCause, &[u8]); 9] = [
-        (
-            ErrorCause::NotOffered,
-            b"l\x03\x01\x01!\0\0\0\x02\0\0\0?\0\0\0\x04\x01s\0'\0\0\0org.freedesktop.PolicyKit1.Error.Failed\0\x05\x01u\0\x09\0\0\0\x08\x01g\0\x01s\0\0\x1c\0\0\0The identity was not offered\0",
-        ),
-        (
-            ErrorCause::AgentExists,
-            b"l\x03\x01\x01+\0\0\0\x02\0\0\0?\0\0\0\x04\x01s\0'\0\0\0org.freedesktop.PolicyKit1.Error.Failed\0\x05\x01u\0\x09\0\0\0\x08\x01g\0\x01s\0\0&\0\0\0An agent is registered for the subject\0",
-        ),
-        (
-            ErrorCause::NoSuchAgent,
-            b"l\x03\x01\x01 \0\0\0\x02\0\0\0?\0\0\0\x04\x01s\0'\0\0\0org.freedesktop.PolicyKit1.Error.Failed\0\x05\x01u\0\x09\0\0\0\x08\x01g\0\x01s\0\0\x1b\0\0\0No such agent is registered\0",
-        ),
-        (
-            ErrorCause::NotYours,
-            b"l\x03\x01\x01(\0\0\0\x02\0\0\0G\0\0\0\x04\x01s\0.\0\0\0org.freedesktop.PolicyKit1.Error.NotAuthorized\0\0\x05\x01u\0\x09\0\0\0\x08\x01g\0\x01s\0\0#\0\0\0The subject belongs to another user\0",
-        ),
-        (
-            ErrorCause::NoSuchGrant,
-            b"l\x03\x01\x01$\0\0\0\x02\0\0\0?\0\0\0\x04\x01s\0'\0\0\0org.freedesktop.PolicyKit1.Error.Failed\0\x05\x01u\0\x09\0\0\0\x08\x01g\0\x01s\0\0\x1f\0\0\0No such temporary authorization\0",
-        ),
-        (
-            ErrorCause::UnknownObject,
-            b"l\x03\x01\x01\x13\0\0\0\x02\0\0\0G\0\0\0\x04\x01s\0(\0\0\0org.freedesktop.DBus.Error.UnknownObject\0\0\0\0\0\0\0\0\x05\x01u\0\x09\0\0\0\x08\x01g\0\x01s\0\0\x0e\0\0\0No such object\0",
-        ),
-        (
-            ErrorCause::UnknownMethod,
-            b"l\x03\x01\x01\x13\0\0\0\x02\0\0\0G\0\0\0\x04\x01s\0(\0\0\0org.freedesktop.DBus.Error.UnknownMethod\0\0\0\0\0\0\0\0\x05\x01u\0\x09\0\0\0\x08\x01g\0\x01s\0\0\x0e\0\0\0No such method\0",
-        ),
-        (
-            ErrorCause::InvalidArgs,
-            b"l\x03\x01\x01\x14\0\0\0\x02\0\0\0?\0\0\0\x04\x01s\0&\0\0\0org.freedesktop.DBus.Error.InvalidArgs\0\0\x05\x01u\0\x09\0\0\0\x08\x01g\0\x01s\0\0\x0f\0\0\0Wrong arguments\0",
-        ),
-        (
-            ErrorCause::BadAnnounce,
-            b"l\x03\x01\x01,\0\0\0\x02\0\0\0?\0\0\0\x04\x01s\0'\0\0\0org.freedesktop.PolicyKit1.Error.Failed\0\x05\x01u\0\x09\0\0\0\x08\x01g\0\x01s\0\0'\0\0\0The process is not listed for this user\0",
-        ),
-    ];
-    for (cause, want) in rows {
-        assert!(rt; is_answered(alloc, Answer::Refused(cause), want)?);
+    for (cause, want) in &LAST_REFUSALS {
+        assert!(rt; is_answered(rt.alloc(), Answer::Refused(*cause), want)?);
     }
     Ok(())
 }

@@ -6,7 +6,7 @@ ghost use Rattle.client_messages.specs.Calls.{method_of};
 use authority_calls::event_of;
 use authority_model::{Call, Event};
 use client_messages::*;
-use dbus_values::{Next, next_message};
+use dbus_values::{Next, WireMessage, next_message};
 use pk_types::{Identity, List, NoMemory, Pair, PairList, Subject, Text};
 use std::alloc::{AllocError, Global};
 use std::test::Fail;
@@ -44,12 +44,18 @@ fn is_call(event: &Event, word: &str) -> bool {
     }
 }
 
+/// Whether a message asks such a call.
+fn is_asked_in(alloc: Global, message: &WireMessage, word: &str) -> Result<bool, NoMemory> {
+    let event = event_of(alloc, message)?;
+    Ok(is_call(&event, word))
+}
+
 /// Whether the bytes ask such a call, with the serial 3, and a reply is wanted.
 fn is_asked(alloc: Global, bytes: &[u8], word: &str) -> Result<bool, NoMemory> {
     match next_message(bytes) {
         Next::Whole { message, used } => {
-            let event = event_of(alloc, &message)?;
-            Ok(used == bytes.len() && is_call(&event, word))
+            let is_call = is_asked_in(alloc, &message, word)?;
+            Ok(is_call && used == bytes.len())
         }
         Next::Partial => Ok(false),
         Next::Bad { .. } => Ok(false),
@@ -328,116 +334,118 @@ fn told(alloc: Global, bytes: &[u8]) -> Result<InShort, NoMemory> {
     }
 }
 
+/// Messages, and what they tell of the call with the serial 7.
+const REPLIES: [(&[u8], InShort); 9] = [
+    // Yes.
+    (
+        b"l\x02\x01\x018\0\0\0\x02\0\0\0\x17\0\0\0\x05\x01u\0\x07\0\0\0\x08\x01g\0\x09(bba{ss})\0\0\x01\0\0\0\0\0\0\0(\0\0\0\0\0\0\0\x11\0\0\0polkit.decided-by\0\0\0\x0b\0\0\0default:any\0",
+        InShort::Verdict(true, false, 1),
+    ),
+    // The same, big-endian and without the flag for no reply.
+    (
+        b"B\x02\0\x01\0\0\08\0\0\0\x02\0\0\0\x17\x05\x01u\0\0\0\0\x07\x08\x01g\0\x09(bba{ss})\0\0\0\0\0\x01\0\0\0\0\0\0\0(\0\0\0\0\0\0\0\x11polkit.decided-by\0\0\0\0\0\0\x0bdefault:any\0",
+        InShort::Verdict(true, false, 1),
+    ),
+    // A challenge, with a key that comes twice.
+    (
+        b"l\x02\x01\x01-\0\0\0\x02\0\0\0\x17\0\0\0\x05\x01u\0\x07\0\0\0\x08\x01g\0\x09(bba{ss})\0\0\0\0\0\0\x01\0\0\0\x1d\0\0\0\0\0\0\0\x01\0\0\0k\0\0\0\x01\0\0\0v\0\0\0\x01\0\0\0k\0\0\0\0\0\0\0\0",
+        InShort::Verdict(false, true, 2),
+    ),
+    // No, without details.
+    (
+        b"l\x02\x01\x01\x10\0\0\0\x02\0\0\0\x17\0\0\0\x05\x01u\0\x07\0\0\0\x08\x01g\0\x09(bba{ss})\0\0\0\0\0\0\0\0\0\0\0\0\0\0\0\0\0\0",
+        InShort::Verdict(false, false, 0),
+    ),
+    // Done.
+    (
+        b"l\x02\x01\x01\0\0\0\0\x02\0\0\0\x08\0\0\0\x05\x01u\0\x07\0\0\0",
+        InShort::Done,
+    ),
+    // A bus name.
+    (
+        b"l\x02\x01\x01\x09\0\0\0\x02\0\0\0\x0f\0\0\0\x05\x01u\0\x07\0\0\0\x08\x01g\0\x01s\0\0\x04\0\0\0:1.4\0",
+        InShort::Name(4),
+    ),
+    // An error with a text.
+    (
+        b"l\x03\x01\x01\x06\0\0\0\x02\0\0\0\x1f\0\0\0\x04\x01s\0\x07\0\0\0a.Fault\0\x05\x01u\0\x07\0\0\0\x08\x01g\0\x01s\0\0\x01\0\0\0x\0",
+        InShort::Error(7),
+    ),
+    // An error with another body.
+    (
+        b"l\x03\x01\x01\x10\0\0\0\x02\0\0\0'\0\0\0\x04\x01s\0\x07\0\0\0a.Fault\0\x05\x01u\0\x07\0\0\0\x08\x01g\0\x09(bba{ss})\0\0\x01\0\0\0\0\0\0\0\0\0\0\0\0\0\0\0",
+        InShort::Error(7),
+    ),
+    // An error without a body.
+    (
+        b"l\x03\x01\x01\0\0\0\0\x02\0\0\0\x18\0\0\0\x04\x01s\0\x07\0\0\0a.Fault\0\x05\x01u\0\x07\0\0\0",
+        InShort::Error(7),
+    ),
+];
+
 /// Verdicts, an empty return, a name, and errors.
 #[test]
 fn replies_are_told(rt: HostRuntime) -> Result<(), Fail> {
-    let alloc = rt.alloc();
-    let rows: [(&[u8], InShort); 9] = [
-        // Yes.
-        (
-            b"l\x02\x01\x018\0\0\0\x02\0\0\0\x17\0\0\0\x05\x01u\0\x07\0\0\0\x08\x01g\0\x09(bba{ss})\0\0\x01\0\0\0\0\0\0\0(\0\0\0\0\0\0\0\x11\0\0\0polkit.decided-by\0\0\0\x0b\0\0\0default:any\0",
-            InShort::Verdict(true, false, 1),
-        ),
-        // The same, big-endian and without the flag for no reply.
-        (
-            b"B\x02\0\x01\0\0\08\0\0\0\x02\0\0\0\x17\x05\x01u\0\0\0\0\x07\x08\x01g\0\x09(bba{ss})\0\0\0\0\0\x01\0\0\0\0\0\0\0(\0\0\0\0\0\0\0\x11polkit.decided-by\0\0\0\0\0\0\x0bdefault:any\0",
-            InShort::Verdict(true, false, 1),
-        ),
-        // A challenge, with a key that comes twice.
-        (
-            b"l\x02\x01\x01-\0\0\0\x02\0\0\0\x17\0\0\0\x05\x01u\0\x07\0\0\0\x08\x01g\0\x09(bba{ss})\0\0\0\0\0\0\x01\0\0\0\x1d\0\0\0\0\0\0\0\x01\0\0\0k\0\0\0\x01\0\0\0v\0\0\0\x01\0\0\0k\0\0\0\0\0\0\0\0",
-            InShort::Verdict(false, true, 2),
-        ),
-        // No, without details.
-        (
-            b"l\x02\x01\x01\x10\0\0\0\x02\0\0\0\x17\0\0\0\x05\x01u\0\x07\0\0\0\x08\x01g\0\x09(bba{ss})\0\0\0\0\0\0\0\0\0\0\0\0\0\0\0\0\0\0",
-            InShort::Verdict(false, false, 0),
-        ),
-        // Done.
-        (
-            b"l\x02\x01\x01\0\0\0\0\x02\0\0\0\x08\0\0\0\x05\x01u\0\x07\0\0\0",
-            InShort::Done,
-        ),
-        // A bus name.
-        (
-            b"l\x02\x01\x01\x09\0\0\0\x02\0\0\0\x0f\0\0\0\x05\x01u\0\x07\0\0\0\x08\x01g\0\x01s\0\0\x04\0\0\0:1.4\0",
-            InShort::Name(4),
-        ),
-        // An error with a text.
-        (
-            b"l\x03\x01\x01\x06\0\0\0\x02\0\0\0\x1f\0\0\0\x04\x01s\0\x07\0\0\0a.Fault\0\x05\x01u\0\x07\0\0\0\x08\x01g\0\x01s\0\0\x01\0\0\0x\0",
-            InShort::Error(7),
-        ),
-        // An error with another body.
-        (
-            b"l\x03\x01\x01\x10\0\0\0\x02\0\0\0'\0\0\0\x04\x01s\0\x07\0\0\0a.Fault\0\x05\x01u\0\x07\0\0\0\x08\x01g\0\x09(bba{ss})\0\0\x01\0\0\0\0\0\0\0\0\0\0\0\0\0\0\0",
-            InShort::Error(7),
-        ),
-        // An error without a body.
-        (
-            b"l\x03\x01\x01\0\0\0\0\x02\0\0\0\x18\0\0\0\x04\x01s\0\x07\0\0\0a.Fault\0\x05\x01u\0\x07\0\0\0",
-            InShort::Error(7),
-        ),
-    ];
-    for (bytes, want) in rows {
-        assert_eq!(rt; told(alloc, bytes)?, want);
+    for (bytes, want) in &REPLIES {
+        assert_eq!(rt; told(rt.alloc(), bytes)?, *want);
     }
     Ok(())
 }
 
+/// Messages that tell nothing of that call.
+const OTHER_MESSAGES: [(&[u8], InShort); 9] = [
+    // A return to another call.
+    (
+        b"l\x02\x01\x01\x10\0\0\0\x02\0\0\0\x17\0\0\0\x05\x01u\0\x08\0\0\0\x08\x01g\0\x09(bba{ss})\0\0\x01\0\0\0\0\0\0\0\0\0\0\0\0\0\0\0",
+        InShort::Other,
+    ),
+    // An error to another call.
+    (
+        b"l\x03\x01\x01\x06\0\0\0\x02\0\0\0\x1f\0\0\0\x04\x01s\0\x07\0\0\0a.Fault\0\x05\x01u\0\x08\0\0\0\x08\x01g\0\x01s\0\0\x01\0\0\0x\0",
+        InShort::Other,
+    ),
+    // A call that names the serial.
+    (
+        b"l\x01\0\x01\x06\0\0\0\x02\0\0\0/\0\0\0\x01\x01o\0\x02\0\0\0/a\0\0\0\0\0\0\x03\x01s\0\x01\0\0\0B\0\0\0\0\0\0\0\x05\x01u\0\x07\0\0\0\x08\x01g\0\x01s\0\0\x01\0\0\0x\0",
+        InShort::Other,
+    ),
+    // A signal that names the serial.
+    (
+        b"l\x04\x01\x01\0\0\0\0\x02\0\0\08\0\0\0\x01\x01o\0\x02\0\0\0/a\0\0\0\0\0\0\x02\x01s\0\x03\0\0\0a.B\0\0\0\0\0\x03\x01s\0\x01\0\0\0C\0\0\0\0\0\0\0\x05\x01u\0\x07\0\0\0",
+        InShort::Other,
+    ),
+    // A message of an unknown type.
+    (
+        b"l\x05\x01\x01\0\0\0\0\x02\0\0\0\x08\0\0\0\x05\x01u\0\x07\0\0\0",
+        InShort::Other,
+    ),
+    // A number.
+    (
+        b"l\x02\x01\x01\x04\0\0\0\x02\0\0\0\x0f\0\0\0\x05\x01u\0\x07\0\0\0\x08\x01g\0\x01u\0\0\x01\0\0\0",
+        InShort::Other,
+    ),
+    // Two texts.
+    (
+        b"l\x02\x01\x01\x0e\0\0\0\x02\0\0\0\x10\0\0\0\x05\x01u\0\x07\0\0\0\x08\x01g\0\x02ss\0\x01\0\0\0x\0\0\0\x01\0\0\0y\0",
+        InShort::Other,
+    ),
+    // Two booleans and no details.
+    (
+        b"l\x02\x01\x01\x08\0\0\0\x02\0\0\0\x12\0\0\0\x05\x01u\0\x07\0\0\0\x08\x01g\0\x04(bb)\0\0\0\0\0\0\0\x01\0\0\0\0\0\0\0",
+        InShort::Other,
+    ),
+    // Temporary authorizations.
+    (
+        b"l\x02\x01\x01\x08\0\0\0\x02\0\0\0\x1d\0\0\0\x05\x01u\0\x07\0\0\0\x08\x01g\0\x0fa(ss(sa{sv})tt)\0\0\0\0\0\0\0\0\0\0\0\0",
+        InShort::Other,
+    ),
+];
+
 /// Replies to other calls, other types, and other bodies.
 #[test]
 fn other_messages_tell_nothing(rt: HostRuntime) -> Result<(), Fail> {
-    let alloc = rt.alloc();
-    let rows: [(&[u8], InShort); 9] = [
-        // A return to another call.
-        (
-            b"l\x02\x01\x01\x10\0\0\0\x02\0\0\0\x17\0\0\0\x05\x01u\0\x08\0\0\0\x08\x01g\0\x09(bba{ss})\0\0\x01\0\0\0\0\0\0\0\0\0\0\0\0\0\0\0",
-            InShort::Other,
-        ),
-        // An error to another call.
-        (
-            b"l\x03\x01\x01\x06\0\0\0\x02\0\0\0\x1f\0\0\0\x04\x01s\0\x07\0\0\0a.Fault\0\x05\x01u\0\x08\0\0\0\x08\x01g\0\x01s\0\0\x01\0\0\0x\0",
-            InShort::Other,
-        ),
-        // A call that names the serial.
-        (
-            b"l\x01\0\x01\x06\0\0\0\x02\0\0\0/\0\0\0\x01\x01o\0\x02\0\0\0/a\0\0\0\0\0\0\x03\x01s\0\x01\0\0\0B\0\0\0\0\0\0\0\x05\x01u\0\x07\0\0\0\x08\x01g\0\x01s\0\0\x01\0\0\0x\0",
-            InShort::Other,
-        ),
-        // A signal that names the serial.
-        (
-            b"l\x04\x01\x01\0\0\0\0\x02\0\0\08\0\0\0\x01\x01o\0\x02\0\0\0/a\0\0\0\0\0\0\x02\x01s\0\x03\0\0\0a.B\0\0\0\0\0\x03\x01s\0\x01\0\0\0C\0\0\0\0\0\0\0\x05\x01u\0\x07\0\0\0",
-            InShort::Other,
-        ),
-        // A message of an unknown type.
-        (
-            b"l\x05\x01\x01\0\0\0\0\x02\0\0\0\x08\0\0\0\x05\x01u\0\x07\0\0\0",
-            InShort::Other,
-        ),
-        // A number.
-        (
-            b"l\x02\x01\x01\x04\0\0\0\x02\0\0\0\x0f\0\0\0\x05\x01u\0\x07\0\0\0\x08\x01g\0\x01u\0\0\x01\0\0\0",
-            InShort::Other,
-        ),
-        // Two texts.
-        (
-            b"l\x02\x01\x01\x0e\0\0\0\x02\0\0\0\x10\0\0\0\x05\x01u\0\x07\0\0\0\x08\x01g\0\x02ss\0\x01\0\0\0x\0\0\0\x01\0\0\0y\0",
-            InShort::Other,
-        ),
-        // Two booleans and no details.
-        (
-            b"l\x02\x01\x01\x08\0\0\0\x02\0\0\0\x12\0\0\0\x05\x01u\0\x07\0\0\0\x08\x01g\0\x04(bb)\0\0\0\0\0\0\0\x01\0\0\0\0\0\0\0",
-            InShort::Other,
-        ),
-        // Temporary authorizations.
-        (
-            b"l\x02\x01\x01\x08\0\0\0\x02\0\0\0\x1d\0\0\0\x05\x01u\0\x07\0\0\0\x08\x01g\0\x0fa(ss(sa{sv})tt)\0\0\0\0\0\0\0\0\0\0\0\0",
-            InShort::Other,
-        ),
-    ];
-    for (bytes, want) in rows {
-        assert_eq!(rt; told(alloc, bytes)?, want);
+    for (bytes, want) in &OTHER_MESSAGES {
+        assert_eq!(rt; told(rt.alloc(), bytes)?, *want);
     }
     Ok(())
 }
@@ -510,47 +518,48 @@ fn asked(alloc: Global, bytes: &[u8]) -> Result<Question, NoMemory> {
     }
 }
 
+/// Messages to an agent, and what they ask it.
+const QUESTIONS: [(&[u8], Question); 7] = [
+    // With details and identities, and without.
+    (
+        b"l\x01\0\x01\x98\0\0\0\x09\0\0\0\x80\0\0\0\x01\x01o\0\x06\0\0\0/agent\0\0\x02\x01s\0.\0\0\0org.freedesktop.PolicyKit1.AuthenticationAgent\0\0\x03\x01s\0\x13\0\0\0BeginAuthentication\0\0\0\0\0\x08\x01g\0\x12sssa{ss}sa(sa{sv})\0\x06\0\0\0a.self\0\0\x06\0\0\0Do it?\0\0\x03\0\0\0key\0\x0e\0\0\0\0\0\0\0\x01\0\0\0k\0\0\0\x01\0\0\0v\0\0\0\x03\0\0\01-0\0P\0\0\0\0\0\0\0\x09\0\0\0unix-user\0\0\0\x10\0\0\0\0\0\0\0\x03\0\0\0uid\0\x01u\0\0\xe8\x03\0\0\x0a\0\0\0unix-group\0\0\x10\0\0\0\0\0\0\0\x03\0\0\0gid\0\x01u\0\0\x05\0\0\0",
+        Question::Asked(9, 6, 3),
+    ),
+    (
+        b"l\x01\0\x010\0\0\0\x09\0\0\0\x80\0\0\0\x01\x01o\0\x01\0\0\0/\0\0\0\0\0\0\0\x02\x01s\0.\0\0\0org.freedesktop.PolicyKit1.AuthenticationAgent\0\0\x03\x01s\0\x13\0\0\0BeginAuthentication\0\0\0\0\0\x08\x01g\0\x12sssa{ss}sa(sa{sv})\0\x01\0\0\0a\0\0\0\0\0\0\0\0\0\0\0\0\0\0\0\0\0\0\0\0\0\0\0\0\0\0\0\0\0\0\0\0\0\0\0\0\0\0\0\0\0\0\0",
+        Question::Asked(9, 1, 0),
+    ),
+    // Another member.
+    (
+        b"l\x01\0\x01\x98\0\0\0\x09\0\0\0\x80\0\0\0\x01\x01o\0\x06\0\0\0/agent\0\0\x02\x01s\0.\0\0\0org.freedesktop.PolicyKit1.AuthenticationAgent\0\0\x03\x01s\0\x14\0\0\0CancelAuthentication\0\0\0\0\x08\x01g\0\x12sssa{ss}sa(sa{sv})\0\x06\0\0\0a.self\0\0\x06\0\0\0Do it?\0\0\x03\0\0\0key\0\x0e\0\0\0\0\0\0\0\x01\0\0\0k\0\0\0\x01\0\0\0v\0\0\0\x03\0\0\01-0\0P\0\0\0\0\0\0\0\x09\0\0\0unix-user\0\0\0\x10\0\0\0\0\0\0\0\x03\0\0\0uid\0\x01u\0\0\xe8\x03\0\0\x0a\0\0\0unix-group\0\0\x10\0\0\0\0\0\0\0\x03\0\0\0gid\0\x01u\0\0\x05\0\0\0",
+        Question::NoQuestion,
+    ),
+    // Another interface, and none.
+    (
+        b"l\x01\0\x01\x98\0\0\0\x09\0\0\0x\0\0\0\x01\x01o\0\x06\0\0\0/agent\0\0\x02\x01s\0$\0\0\0org.freedesktop.PolicyKit1.Authority\0\0\0\0\x03\x01s\0\x13\0\0\0BeginAuthentication\0\0\0\0\0\x08\x01g\0\x12sssa{ss}sa(sa{sv})\0\x06\0\0\0a.self\0\0\x06\0\0\0Do it?\0\0\x03\0\0\0key\0\x0e\0\0\0\0\0\0\0\x01\0\0\0k\0\0\0\x01\0\0\0v\0\0\0\x03\0\0\01-0\0P\0\0\0\0\0\0\0\x09\0\0\0unix-user\0\0\0\x10\0\0\0\0\0\0\0\x03\0\0\0uid\0\x01u\0\0\xe8\x03\0\0\x0a\0\0\0unix-group\0\0\x10\0\0\0\0\0\0\0\x03\0\0\0gid\0\x01u\0\0\x05\0\0\0",
+        Question::NoQuestion,
+    ),
+    (
+        b"l\x01\0\x01\x98\0\0\0\x09\0\0\0H\0\0\0\x01\x01o\0\x06\0\0\0/agent\0\0\x03\x01s\0\x13\0\0\0BeginAuthentication\0\0\0\0\0\x08\x01g\0\x12sssa{ss}sa(sa{sv})\0\x06\0\0\0a.self\0\0\x06\0\0\0Do it?\0\0\x03\0\0\0key\0\x0e\0\0\0\0\0\0\0\x01\0\0\0k\0\0\0\x01\0\0\0v\0\0\0\x03\0\0\01-0\0P\0\0\0\0\0\0\0\x09\0\0\0unix-user\0\0\0\x10\0\0\0\0\0\0\0\x03\0\0\0uid\0\x01u\0\0\xe8\x03\0\0\x0a\0\0\0unix-group\0\0\x10\0\0\0\0\0\0\0\x03\0\0\0gid\0\x01u\0\0\x05\0\0\0",
+        Question::NoQuestion,
+    ),
+    // Another signature.
+    (
+        b"l\x01\0\x01@\0\0\0\x09\0\0\0w\0\0\0\x01\x01o\0\x06\0\0\0/agent\0\0\x02\x01s\0.\0\0\0org.freedesktop.PolicyKit1.AuthenticationAgent\0\0\x03\x01s\0\x13\0\0\0BeginAuthentication\0\0\0\0\0\x08\x01g\0\x09sssa{ss}s\0\0\x06\0\0\0a.self\0\0\x06\0\0\0Do it?\0\0\x03\0\0\0key\0\x0e\0\0\0\0\0\0\0\x01\0\0\0k\0\0\0\x01\0\0\0v\0\0\0\x03\0\0\01-0\0",
+        Question::NoQuestion,
+    ),
+    // A return.
+    (
+        b"l\x02\0\x01\x98\0\0\0\x09\0\0\0 \0\0\0\x05\x01u\0\x07\0\0\0\x08\x01g\0\x12sssa{ss}sa(sa{sv})\0\x06\0\0\0a.self\0\0\x06\0\0\0Do it?\0\0\x03\0\0\0key\0\x0e\0\0\0\0\0\0\0\x01\0\0\0k\0\0\0\x01\0\0\0v\0\0\0\x03\0\0\01-0\0P\0\0\0\0\0\0\0\x09\0\0\0unix-user\0\0\0\x10\0\0\0\0\0\0\0\x03\0\0\0uid\0\x01u\0\0\xe8\x03\0\0\x0a\0\0\0unix-group\0\0\x10\0\0\0\0\0\0\0\x03\0\0\0gid\0\x01u\0\0\x05\0\0\0",
+        Question::NoQuestion,
+    ),
+];
+
 /// BeginAuthentication, and what is not one.
 #[test]
 fn questions_are_read(rt: HostRuntime) -> Result<(), Fail> {
-    let alloc = rt.alloc();
-    let rows: [(&[u8], Question); 7] = [
-        // With details and identities, and without.
-        (
-            b"l\x01\0\x01\x98\0\0\0\x09\0\0\0\x80\0\0\0\x01\x01o\0\x06\0\0\0/agent\0\0\x02\x01s\0.\0\0\0org.freedesktop.PolicyKit1.AuthenticationAgent\0\0\x03\x01s\0\x13\0\0\0BeginAuthentication\0\0\0\0\0\x08\x01g\0\x12sssa{ss}sa(sa{sv})\0\x06\0\0\0a.self\0\0\x06\0\0\0Do it?\0\0\x03\0\0\0key\0\x0e\0\0\0\0\0\0\0\x01\0\0\0k\0\0\0\x01\0\0\0v\0\0\0\x03\0\0\01-0\0P\0\0\0\0\0\0\0\x09\0\0\0unix-user\0\0\0\x10\0\0\0\0\0\0\0\x03\0\0\0uid\0\x01u\0\0\xe8\x03\0\0\x0a\0\0\0unix-group\0\0\x10\0\0\0\0\0\0\0\x03\0\0\0gid\0\x01u\0\0\x05\0\0\0",
-            Question::Asked(9, 6, 3),
-        ),
-        (
-            b"l\x01\0\x010\0\0\0\x09\0\0\0\x80\0\0\0\x01\x01o\0\x01\0\0\0/\0\0\0\0\0\0\0\x02\x01s\0.\0\0\0org.freedesktop.PolicyKit1.AuthenticationAgent\0\0\x03\x01s\0\x13\0\0\0BeginAuthentication\0\0\0\0\0\x08\x01g\0\x12sssa{ss}sa(sa{sv})\0\x01\0\0\0a\0\0\0\0\0\0\0\0\0\0\0\0\0\0\0\0\0\0\0\0\0\0\0\0\0\0\0\0\0\0\0\0\0\0\0\0\0\0\0\0\0\0\0",
-            Question::Asked(9, 1, 0),
-        ),
-        // Another member.
-        (
-            b"l\x01\0\x01\x98\0\0\0\x09\0\0\0\x80\0\0\0\x01\x01o\0\x06\0\0\0/agent\0\0\x02\x01s\0.\0\0\0org.freedesktop.PolicyKit1.AuthenticationAgent\0\0\x03\x01s\0\x14\0\0\0CancelAuthentication\0\0\0\0\x08\x01g\0\x12sssa{ss}sa(sa{sv})\0\x06\0\0\0a.self\0\0\x06\0\0\0Do it?\0\0\x03\0\0\0key\0\x0e\0\0\0\0\0\0\0\x01\0\0\0k\0\0\0\x01\0\0\0v\0\0\0\x03\0\0\01-0\0P\0\0\0\0\0\0\0\x09\0\0\0unix-user\0\0\0\x10\0\0\0\0\0\0\0\x03\0\0\0uid\0\x01u\0\0\xe8\x03\0\0\x0a\0\0\0unix-group\0\0\x10\0\0\0\0\0\0\0\x03\0\0\0gid\0\x01u\0\0\x05\0\0\0",
-            Question::NoQuestion,
-        ),
-        // Another interface, and none.
-        (
-            b"l\x01\0\x01\x98\0\0\0\x09\0\0\0x\0\0\0\x01\x01o\0\x06\0\0\0/agent\0\0\x02\x01s\0$\0\0\0org.freedesktop.PolicyKit1.Authority\0\0\0\0\x03\x01s\0\x13\0\0\0BeginAuthentication\0\0\0\0\0\x08\x01g\0\x12sssa{ss}sa(sa{sv})\0\x06\0\0\0a.self\0\0\x06\0\0\0Do it?\0\0\x03\0\0\0key\0\x0e\0\0\0\0\0\0\0\x01\0\0\0k\0\0\0\x01\0\0\0v\0\0\0\x03\0\0\01-0\0P\0\0\0\0\0\0\0\x09\0\0\0unix-user\0\0\0\x10\0\0\0\0\0\0\0\x03\0\0\0uid\0\x01u\0\0\xe8\x03\0\0\x0a\0\0\0unix-group\0\0\x10\0\0\0\0\0\0\0\x03\0\0\0gid\0\x01u\0\0\x05\0\0\0",
-            Question::NoQuestion,
-        ),
-        (
-            b"l\x01\0\x01\x98\0\0\0\x09\0\0\0H\0\0\0\x01\x01o\0\x06\0\0\0/agent\0\0\x03\x01s\0\x13\0\0\0BeginAuthentication\0\0\0\0\0\x08\x01g\0\x12sssa{ss}sa(sa{sv})\0\x06\0\0\0a.self\0\0\x06\0\0\0Do it?\0\0\x03\0\0\0key\0\x0e\0\0\0\0\0\0\0\x01\0\0\0k\0\0\0\x01\0\0\0v\0\0\0\x03\0\0\01-0\0P\0\0\0\0\0\0\0\x09\0\0\0unix-user\0\0\0\x10\0\0\0\0\0\0\0\x03\0\0\0uid\0\x01u\0\0\xe8\x03\0\0\x0a\0\0\0unix-group\0\0\x10\0\0\0\0\0\0\0\x03\0\0\0gid\0\x01u\0\0\x05\0\0\0",
-            Question::NoQuestion,
-        ),
-        // Another signature.
-        (
-            b"l\x01\0\x01@\0\0\0\x09\0\0\0w\0\0\0\x01\x01o\0\x06\0\0\0/agent\0\0\x02\x01s\0.\0\0\0org.freedesktop.PolicyKit1.AuthenticationAgent\0\0\x03\x01s\0\x13\0\0\0BeginAuthentication\0\0\0\0\0\x08\x01g\0\x09sssa{ss}s\0\0\x06\0\0\0a.self\0\0\x06\0\0\0Do it?\0\0\x03\0\0\0key\0\x0e\0\0\0\0\0\0\0\x01\0\0\0k\0\0\0\x01\0\0\0v\0\0\0\x03\0\0\01-0\0",
-            Question::NoQuestion,
-        ),
-        // A return.
-        (
-            b"l\x02\0\x01\x98\0\0\0\x09\0\0\0 \0\0\0\x05\x01u\0\x07\0\0\0\x08\x01g\0\x12sssa{ss}sa(sa{sv})\0\x06\0\0\0a.self\0\0\x06\0\0\0Do it?\0\0\x03\0\0\0key\0\x0e\0\0\0\0\0\0\0\x01\0\0\0k\0\0\0\x01\0\0\0v\0\0\0\x03\0\0\01-0\0P\0\0\0\0\0\0\0\x09\0\0\0unix-user\0\0\0\x10\0\0\0\0\0\0\0\x03\0\0\0uid\0\x01u\0\0\xe8\x03\0\0\x0a\0\0\0unix-group\0\0\x10\0\0\0\0\0\0\0\x03\0\0\0gid\0\x01u\0\0\x05\0\0\0",
-            Question::NoQuestion,
-        ),
-    ];
-    for (bytes, want) in rows {
-        assert_eq!(rt; asked(alloc, bytes)?, want);
+    for (bytes, want) in &QUESTIONS {
+        assert_eq!(rt; asked(rt.alloc(), bytes)?, *want);
     }
     Ok(())
 }

@@ -189,42 +189,42 @@ fn fronts(rt: HostRuntime) {
     }
 }
 
+/// A place in the worked message, another byte there, the first fault, and its place.
+const FAULTS: [(usize, u8, FaultKind, usize); 26] = [
+    (0, 120, FaultKind::Endian, 0),
+    (1, 0, FaultKind::Kind, 1),
+    (3, 2, FaultKind::Version, 3),
+    (8, 0, FaultKind::Serial, 8),
+    (7, 255, FaultKind::Length, 4),
+    (15, 1, FaultKind::Length, 12),
+    (62, 1, FaultKind::Padding, 62),
+    (166, 1, FaultKind::Padding, 166),
+    (185, 1, FaultKind::Padding, 185),
+    (251, 1, FaultKind::Padding, 251),
+    (16, 0, FaultKind::Fields, 16),
+    (18, 115, FaultKind::Fields, 16),
+    (64, 1, FaultKind::Fields, 64),
+    (144, 0, FaultKind::Fields, 144),
+    (112, 7, FaultKind::Fields, 12),
+    (24, 65, FaultKind::Text, 20),
+    (61, 65, FaultKind::Text, 20),
+    (20, 38, FaultKind::Text, 20),
+    (149, 33, FaultKind::Text, 148),
+    (172, 0, FaultKind::Text, 168),
+    (172, 255, FaultKind::Text, 168),
+    (200, 65, FaultKind::Length, 200),
+    (202, 2, FaultKind::Text, 200),
+    (22, 1, FaultKind::Length, 20),
+    (189, 1, FaultKind::Length, 188),
+    (260, 1, FaultKind::Length, 260),
+];
+
 /// The worked message with one byte changed: the first fault and its place.
 #[test]
 fn faults(rt: HostRuntime) {
-    let rows = [
-        (0, 120, FaultKind::Endian, 0),
-        (1, 0, FaultKind::Kind, 1),
-        (3, 2, FaultKind::Version, 3),
-        (8, 0, FaultKind::Serial, 8),
-        (7, 255, FaultKind::Length, 4),
-        (15, 1, FaultKind::Length, 12),
-        (62, 1, FaultKind::Padding, 62),
-        (166, 1, FaultKind::Padding, 166),
-        (185, 1, FaultKind::Padding, 185),
-        (251, 1, FaultKind::Padding, 251),
-        (16, 0, FaultKind::Fields, 16),
-        (18, 115, FaultKind::Fields, 16),
-        (64, 1, FaultKind::Fields, 64),
-        (144, 0, FaultKind::Fields, 144),
-        (112, 7, FaultKind::Fields, 12),
-        (24, 65, FaultKind::Text, 20),
-        (61, 65, FaultKind::Text, 20),
-        (20, 38, FaultKind::Text, 20),
-        (149, 33, FaultKind::Text, 148),
-        (172, 0, FaultKind::Text, 168),
-        (172, 255, FaultKind::Text, 168),
-        (200, 65, FaultKind::Length, 200),
-        (202, 2, FaultKind::Text, 200),
-        (22, 1, FaultKind::Length, 20),
-        (189, 1, FaultKind::Length, 188),
-        (260, 1, FaultKind::Length, 260),
-    ];
-    for (at, byte, kind, place) in rows {
-        assert!(rt;
-            is_bad(next_message(&changed(at, byte)), kind, place),
-            "at {at}"
-        );
+    for (at, byte, kind, place) in &FAULTS {
+        let bytes = changed(*at, *byte);
+        assert!(rt; is_bad(next_message(&bytes), *kind, *place), "at {at}");
     }
     assert!(rt; is_whole(next_message(&changed(1, 5)), 265));
 }
@@ -364,8 +364,8 @@ const SMALL_FAULTS: [(&str, &[u8], FaultKind, usize); 14] = [
 
 #[test]
 fn small_faults(rt: HostRuntime) {
-    for (shows, bytes, kind, place) in SMALL_FAULTS {
-        assert!(rt; is_bad(next_message(bytes), kind, place), "{shows}");
+    for (shows, bytes, kind, place) in &SMALL_FAULTS {
+        assert!(rt; is_bad(next_message(bytes), *kind, *place), "{shows}");
     }
 }
 
@@ -432,8 +432,8 @@ const SMALL_MESSAGES: [(&str, &[u8], usize); 5] = [
 
 #[test]
 fn small_messages(rt: HostRuntime) {
-    for (shows, bytes, length) in SMALL_MESSAGES {
-        assert!(rt; is_whole(next_message(bytes), length), "{shows}");
+    for (shows, bytes, length) in &SMALL_MESSAGES {
+        assert!(rt; is_whole(next_message(bytes), *length), "{shows}");
     }
 }
 

@@ -5,27 +5,29 @@ use std::alloc::Global;
 use std::test::Fail;
 use test_values::text;
 
+/// Bytes, and whether they are an object path.
+const PATHS: [(&[u8], bool); 14] = [
+    (b"/", true),
+    (b"/a", true),
+    (b"/org/freedesktop/PolicyKit1/Authority", true),
+    (b"/A_9/z0", true),
+    (b"", false),
+    (b"a", false),
+    (b"//", false),
+    (b"/a/", false),
+    (b"/a//b", false),
+    (b"/a-b", false),
+    (b"/a.b", false),
+    (b"/a b", false),
+    (b"/caf\xc3\xa9", false),
+    (b"a/b", false),
+];
+
 /// Object paths, and bytes that are none.
 #[test]
 fn object_paths(rt: HostRuntime) {
-    let rows: [(&[u8], bool); 14] = [
-        (b"/", true),
-        (b"/a", true),
-        (b"/org/freedesktop/PolicyKit1/Authority", true),
-        (b"/A_9/z0", true),
-        (b"", false),
-        (b"a", false),
-        (b"//", false),
-        (b"/a/", false),
-        (b"/a//b", false),
-        (b"/a-b", false),
-        (b"/a.b", false),
-        (b"/a b", false),
-        (b"/caf\xc3\xa9", false),
-        (b"a/b", false),
-    ];
-    for (bytes, wanted) in rows {
-        assert!(rt; is_path(bytes) == wanted, "{bytes:?}");
+    for (bytes, wanted) in &PATHS {
+        assert!(rt; is_path(bytes) == *wanted, "{bytes:?}");
     }
 }
 
@@ -46,12 +48,10 @@ fn variant(alloc: Global) -> Result<Value, NoMemory> {
 
 /// A number, a variant of a text, and an array of two texts.
 fn mixed_body(alloc: Global) -> Result<ValueList, NoMemory> {
-    let variant = variant(alloc)?;
-    let texts = two_texts(alloc)?;
     let mut body = ValueList::new(alloc);
     body.try_push(Value::U64(7))?;
-    body.try_push(variant)?;
-    body.try_push(texts)?;
+    body.try_push(variant(alloc)?)?;
+    body.try_push(two_texts(alloc)?)?;
     Ok(body)
 }
 

@@ -340,31 +340,34 @@ fn awaited(bytes: &[u8]) -> (ClientStep, usize, bool) {
     (last, at, is_kept)
 }
 
+const BAD_LINE: ClientStep = ClientStep::Fault(ShakeFault::BadLine);
+
+/// Bytes of a server, the client's step at the byte that ends it, and where that byte stands.
+const AWAITED: [(&[u8], ClientStep, usize); 9] = [
+    (
+        b"OK 00000000000000000000000000000000\r\nl",
+        ClientStep::SendBegin,
+        36,
+    ),
+    (
+        b"OK 0123456789abcdefABCDEF0123456789\r\n",
+        ClientStep::SendBegin,
+        36,
+    ),
+    (b"OK 0000000000000000000000000000000\r\n", BAD_LINE, 35),
+    (b"OK 0000000000000000000000000000000g\r\n", BAD_LINE, 36),
+    (b"OK 00000000000000000000000000000000\n", BAD_LINE, 35),
+    (b"REJECTED EXTERNAL\r\n", BAD_LINE, 18),
+    (b"OK 0000", ClientStep::More, 7),
+    (&[b'O'; 513], ClientStep::Fault(ShakeFault::TooLong), 512),
+    (&[b'O'; 512], ClientStep::More, 512),
+];
+
 #[test]
 fn the_client_awaits_its_line(rt: HostRuntime) {
-    let bad = ClientStep::Fault(ShakeFault::BadLine);
-    let rows: [(&[u8], ClientStep, usize); 9] = [
-        (
-            b"OK 00000000000000000000000000000000\r\nl",
-            ClientStep::SendBegin,
-            36,
-        ),
-        (
-            b"OK 0123456789abcdefABCDEF0123456789\r\n",
-            ClientStep::SendBegin,
-            36,
-        ),
-        (b"OK 0000000000000000000000000000000\r\n", bad, 35),
-        (b"OK 0000000000000000000000000000000g\r\n", bad, 36),
-        (b"OK 00000000000000000000000000000000\n", bad, 35),
-        (b"REJECTED EXTERNAL\r\n", bad, 18),
-        (b"OK 0000", ClientStep::More, 7),
-        (&[b'O'; 513], ClientStep::Fault(ShakeFault::TooLong), 512),
-        (&[b'O'; 512], ClientStep::More, 512),
-    ];
-    for (bytes, want, want_at) in rows {
+    for (bytes, want, want_at) in &AWAITED {
         let (last, at, is_kept) = awaited(bytes);
         assert!(rt; is_kept, "an end is answered again");
-        assert!(rt; last == want && at == want_at, "{bytes:?}");
+        assert!(rt; last == *want && at == *want_at, "{bytes:?}");
     }
 }

@@ -77,6 +77,19 @@ fn is_default(alloc: Global, category: Category, want: &str) -> Result<bool, NoM
     is_reason(alloc, Reason::Default(category), want)
 }
 
+#[test]
+fn defaults_are_printed_as_reasons(rt: HostRuntime) -> Result<(), Fail> {
+    let defaults = [
+        (Category::Any, "4 9 no default:any\n"),
+        (Category::Inactive, "4 9 no default:inactive\n"),
+        (Category::Active, "4 9 no default:active\n"),
+    ];
+    for (category, want) in defaults {
+        assert!(rt; is_default(rt.alloc(), category, want)?, "{want}");
+    }
+    Ok(())
+}
+
 /// Whether the action `i.c`, which implies another, is printed so as a reason.
 fn is_implied(alloc: Global, want: &str) -> Result<bool, NoMemory> {
     let action = text(alloc, "i.c")?;
@@ -84,16 +97,8 @@ fn is_implied(alloc: Global, want: &str) -> Result<bool, NoMemory> {
 }
 
 #[test]
-fn rules_are_printed_as_reasons(rt: HostRuntime) -> Result<(), Fail> {
+fn others_are_printed_as_reasons(rt: HostRuntime) -> Result<(), Fail> {
     let alloc = rt.alloc();
-    let defaults = [
-        (Category::Any, "4 9 no default:any\n"),
-        (Category::Inactive, "4 9 no default:inactive\n"),
-        (Category::Active, "4 9 no default:active\n"),
-    ];
-    for (category, want) in defaults {
-        assert!(rt; is_default(alloc, category, want)?, "{want}");
-    }
     assert!(rt; is_reason(alloc, Reason::Root, "4 9 no root\n")?);
     assert!(rt; is_reason(alloc, Reason::Entry(12), "4 9 no entry:12\n")?);
     assert!(rt; is_reason(alloc, Reason::Grant(3), "4 9 no grant:tmpauthz3\n")?);
@@ -184,12 +189,6 @@ fn name_is_printed(alloc: Global, name: &str, want: &str) -> Result<bool, NoMemo
     is_answered(alloc, Answer::Name(name), want)
 }
 
-/// Whether the actions of a load are printed so as an answer.
-fn actions_are_printed(alloc: Global, load: u32, want: &str) -> Result<bool, NoMemory> {
-    let locale = Text::new(alloc);
-    is_answered(alloc, Answer::Actions { load, locale }, want)
-}
-
 #[test]
 fn answers_are_printed(rt: HostRuntime) -> Result<(), Fail> {
     let alloc = rt.alloc();
@@ -197,8 +196,19 @@ fn answers_are_printed(rt: HostRuntime) -> Result<(), Fail> {
     assert!(rt; name_is_printed(alloc, ":1.1", "4 9 name :1.1\n")?);
     let refused = Answer::Refused(ErrorCause::NotTrusted);
     assert!(rt; is_answered(alloc, refused, "4 9 error NotAuthorized not-trusted\n")?);
+    Ok(())
+}
+
+/// Whether the actions of a load are printed so as an answer.
+fn actions_are_printed(alloc: Global, load: u32, want: &str) -> Result<bool, NoMemory> {
+    let locale = Text::new(alloc);
+    is_answered(alloc, Answer::Actions { load, locale }, want)
+}
+
+#[test]
+fn actions_are_counted(rt: HostRuntime) -> Result<(), Fail> {
     for (load, want) in [(0, "4 9 actions 0\n"), (1, "4 9 actions 1\n")] {
-        assert!(rt; actions_are_printed(alloc, load, want)?, "{want}");
+        assert!(rt; actions_are_printed(rt.alloc(), load, want)?, "{want}");
     }
     Ok(())
 }

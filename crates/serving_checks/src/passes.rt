@@ -1,59 +1,110 @@
-// Passes that a loader and a connection may be served with.
-ghost use Rattle.std.specs.Prelude.{◌≡◌, [], None, IfOk, OnOk};
+// Passes that a loader and a connection may be served with, and what is entered by them.
+ghost use Rattle.std.specs.Prelude.{◌≡◌, [], None, IfSome};
+ghost use Rattle.std.specs.Option.{OnSome};
+ghost use Rattle.authority_model.specs.Given.{IsStepped};
 ghost use Rattle.authority_model.specs.Peers.{uid_of};
 ghost use Rattle.connection_serve.specs.Headline.{IsFresh};
 ghost use Rattle.history_lock.specs.Calls.{Admitted};
 ghost use Rattle.shared_authority.specs.Journals.{IsJournal, caller_of, past_of};
 
-use authority_model::Loaded;
+use authority_model::{Event, History, Loaded};
 use history_lock::{Pass, TableName};
 use shared_authority::{Kept, LimitsName, Shared};
 use std::sync::Wait;
-use std::test::Fail;
 
-/// Enters the first load by the loader's pass, and makes another one.
+/// Enters the first load by the loader's pass, and makes another one. None where one of the two is
+/// refused.
 pub(crate) fn begin<L: LimitsName, T: TableName, R: Wait>(
     rt: &R,
     shared: &Shared<L, T>,
     zero: &mut Pass<Kept<L>, T>,
     loaded: Loaded,
-) -> Result<Pass<Kept<L>, T>, Fail>
+) -> Option<Pass<Kept<L>, T>>
     requires zero { zero.old.number ≡ 0 }
     requires empty { zero.old.history ≡ [] }
-    ensures zero { OnOk result (zero.new.number ≡ 0) }
-    ensures fresh { OnOk result (uid_of (past_of zero.new.history) 0 ≡ None) }
+    ensures zero { OnSome result (zero.new.number ≡ 0) }
+    ensures fresh { OnSome result (uid_of (past_of zero.new.history) 0 ≡ None) }
 {
     let Ok(_) = shared.submit_load(rt, zero, 0, loaded) else {
-        return Err(Fail::from("loads"));
+        return None;
     };
     let pass = new_pass(rt, shared, zero)?;
-    Ok(pass)
+    Some(pass)
 }
 
-/// A new pass, made at one that is known.
+/// A new pass, made at one that is known. None where it is refused.
 pub(crate) fn new_pass<L: LimitsName, T: TableName, R: Wait>(
     rt: &R,
     shared: &Shared<L, T>,
     known: &mut Pass<Kept<L>, T>,
-) -> Result<Pass<Kept<L>, T>, Fail>
-    ensures { IfOk result (λ pass. Admitted caller_of IsJournal known.old pass known.new) }
+) -> Option<Pass<Kept<L>, T>>
+    ensures { IfSome result (λ pass. Admitted caller_of IsJournal known.old pass known.new) }
 {
-    match shared.admit(rt, known) {
-        Ok(pass) => Ok(pass),
-        Err(_) => Err(Fail::from("admits")),
-    }
+    shared.admit(rt, known).ok()
 }
 
-/// The two passes of a connection.
+/// The two passes of a connection. None where one of them is refused.
 pub(crate) fn two_passes<L: LimitsName, T: TableName, R: Wait>(
     rt: &R,
     shared: &Shared<L, T>,
     zero: &mut Pass<Kept<L>, T>,
-) -> Result<(Pass<Kept<L>, T>, Pass<Kept<L>, T>), Fail>
-    ensures { IfOk result (λ (pass, collector). IsFresh pass collector) }
+) -> Option<(Pass<Kept<L>, T>, Pass<Kept<L>, T>)>
+    ensures { IfSome result (λ (pass, collector). IsFresh pass collector) }
 {
     let _number = zero.number();
     let mut pass = new_pass(rt, shared, zero)?;
     let collector = new_pass(rt, shared, &mut pass)?;
-    Ok((pass, collector))
+    Some((pass, collector))
+}
+
+/// Submits an event, and answers whether it was entered.
+pub(crate) fn is_entered<L: LimitsName, T: TableName, R: Wait>(
+    rt: &R,
+    shared: &Shared<L, T>,
+    pass: &mut Pass<Kept<L>, T>,
+    event: Event,
+) -> bool
+    requires { IsStepped event }
+{
+    has_place(shared.submit(rt, pass, 0, 0, event))
+}
+
+/// Whether an event that was submitted has its place in the journal.
+pub(crate) fn has_place<E: Drop>(submitted: Result<u64, E>) -> bool {
+    submitted.is_ok()
+}
+
+/// How many entries a journal has, how many of them are Loads, and how many are LoadFaileds of a tree
+/// that failed.
+#[derive(Clone, Copy)]
+pub(crate) struct Counts {
+    pub(crate) entries: usize,
+    pub(crate) loads: usize,
+    pub(crate) refused: usize,
+}
+
+/// Closes an authority, and counts in its journal.
+pub(crate) fn close<L: LimitsName, T: TableName>(
+    shared: Shared<L, T>,
+    pass: Pass<Kept<L>, T>,
+) -> Counts {
+    let authority = shared.close(pass);
+    count(authority.history())
+}
+
+fn count(history: &History) -> Counts {
+    let entries = history.entries.as_slice();
+    let loads = entries
+        .iter()
+        .filter(|entry| matches!(entry.event, Event::Load { .. }))
+        .count();
+    let refused = entries
+        .iter()
+        .filter(|entry| matches!(entry.event, Event::LoadFailed { code: 1 }))
+        .count();
+    Counts {
+        entries: entries.len(),
+        loads,
+        refused,
+    }
 }
