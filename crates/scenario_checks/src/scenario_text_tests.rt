@@ -6,214 +6,165 @@ use scenario_text::{Step, read_line};
 use std::alloc::{AllocError, Global};
 use std::test::Fail;
 
-/// A line, and what it says.
-type Row = (&'static str, &'static str);
-
-const LINES: [Row; 158] = [
-    ("", "blank"),
-    ("#", "blank"),
-    ("# check 1 1", "blank"),
-    ("chek 1 1", "7 Word"),
-    (" peer 1 1000", "7 Word"),
-    (" ", "7 Word"),
-    ("Peer 1 1000", "7 Word"),
-    ("at 5", "at 5"),
-    ("at 0", "at 0"),
-    ("at 4611686018427387904", "at 4611686018427387904"),
-    ("at 4611686018427387905", "7 Number"),
-    ("at 05", "7 Number"),
-    ("at", "7 Count"),
-    ("at 5 5", "7 Count"),
-    ("action", "7 Count"),
-    ("action a.yes yes yes", "7 Count"),
-    ("action a.yes yes yes yes yes", "7 Count"),
-    ("action a.yes yes no yes", "action a.yes Yes No Yes"),
-    (
-        "action a auth_self_keep auth_admin_keep auth_admin",
-        "action a AuthSelfKeep AuthAdminKeep AuthAdmin",
-    ),
-    ("action a yes  yes", "7 Value"),
-    ("action  yes yes yes", "7 Value"),
-    ("action a/b yes yes yes", "7 Value"),
-    ("action a yes yes maybe", "7 Value"),
-    ("imply a b", "imply a b"),
-    ("imply a", "7 Count"),
-    ("imply a b c", "7 Count"),
-    ("imply a b/c", "7 Value"),
-    ("imply  b", "7 Value"),
-    (
-        "owner a unix-user:u;unix-group:g",
-        "owner a 2 items, unix-user:u first",
-    ),
-    ("owner a x", "owner a 1 items, x first"),
-    ("owner a x;", "7 Value"),
-    ("owner a ;x", "7 Value"),
-    ("owner a ", "7 Value"),
-    ("owner a/ x", "7 Value"),
-    ("owner a", "7 Count"),
-    (
-        "entry unix-user:a a.*;b yes - -",
-        "entry 1 identities, 2 actions, Some(Yes) None None",
-    ),
-    (
-        "entry a b - auth_self no",
-        "entry 1 identities, 1 actions, None Some(AuthSelf) Some(No)",
-    ),
-    ("entry a b - - -", "7 Value"),
-    ("entry a; b yes - -", "7 Value"),
-    ("entry a  yes - -", "7 Value"),
-    ("entry a b maybe - -", "7 Value"),
-    ("entry a b yes -", "7 Count"),
-    ("entry a b yes - - -", "7 Count"),
-    (
-        "admins unix-group:wheel;unix-user:0",
-        "admins 2 items, unix-group:wheel first",
-    ),
-    ("admins ", "7 Value"),
-    ("admins", "7 Count"),
-    ("actions 1 2 de_DE", "1 calls 2: actions de_DE"),
-    ("actions 1 2 ", "7 Value"),
-    ("actions 1 x ", "7 Number"),
-    ("actions 1 2", "7 Count"),
-    ("user 1000 u 5,6", "user 1000 u 2 gids, 5 first"),
-    ("user 1000 u 5,5", "user 1000 u 2 gids, 5 first"),
-    ("user 0 root -", "user 0 root 0 gids"),
-    ("user 1 u 1,,2", "7 Number"),
-    ("user 1 u ", "7 Number"),
-    ("user 1 u 1,-", "7 Number"),
-    ("user 1 u 4294967296", "7 Number"),
-    ("user 1  1,x", "7 Number"),
-    ("user 1  1", "7 Value"),
-    ("user 1 u", "7 Count"),
-    ("group 10 wheel", "group 10 wheel"),
-    ("group 10 ", "7 Value"),
-    ("group x ", "7 Number"),
-    ("group 10", "7 Count"),
-    ("session s1 1000 local active", "session s1 1000 true true"),
-    ("session - 0 remote idle", "session - 0 false false"),
-    ("session s1 1 local on", "7 Value"),
-    ("session s1 1 Local idle", "7 Value"),
-    ("session  x far on", "7 Number"),
-    ("session s1 1 local", "7 Count"),
-    ("process 1 2 3 -", "process 1 2 3 -"),
-    ("process 1 2 3 s1", "process 1 2 3 s1"),
-    (
-        "process 4294967295 18446744073709551615 4294967295 -",
-        "process 4294967295 18446744073709551615 4294967295 -",
-    ),
-    ("process 4294967296 1 1 -", "7 Number"),
-    ("process 1 18446744073709551616 1 -", "7 Number"),
-    ("process 1 1 4294967296 -", "7 Number"),
-    ("process 01 1 1 -", "7 Number"),
-    ("process +1 1 1 -", "7 Number"),
-    ("process  1 1 -", "7 Number"),
-    ("process 1 1 1 ", "7 Value"),
-    ("process 1 1 1", "7 Count"),
-    ("gone-process 1 2", "gone process 1 2"),
-    ("gone-process 1", "7 Count"),
-    ("gone-process 1 -", "7 Number"),
-    ("gone-session s", "gone session s"),
-    ("gone-session ", "7 Value"),
-    ("gone-session", "7 Count"),
-    ("gone-action a", "gone action a"),
-    ("gone-action a b", "7 Count"),
-    ("gone-action /", "7 Value"),
-    ("reload", "reload"),
-    ("reload ", "7 Count"),
-    ("peer 1 1000", "1 connects 1000"),
-    ("peer 1048575 4294967295", "1048575 connects 4294967295"),
-    ("peer 0 1", "7 Number"),
-    ("peer 1048576 1", "7 Number"),
-    ("peer 1 4294967296", "7 Number"),
-    ("peer 1", "7 Count"),
-    ("peer 1 1 1", "7 Count"),
-    ("depart 1", "1 departs"),
-    ("depart 0", "7 Number"),
-    ("depart", "7 Count"),
-    ("announce 1 2 51 8", "1 calls 2: announce 51 8"),
-    ("announce 1 2 51 x", "7 Number"),
-    ("announce 1 2 51", "7 Count"),
-    (
-        "check 1 2 process:51:8 a.yes",
-        "1 calls 2: check process 51 8, a.yes, flags 0, id ",
-    ),
-    (
-        "check 1 2 session:s1 a ask",
-        "1 calls 2: check session s1, a, flags 1, id ",
-    ),
-    (
-        "check 1 2 session:a:b a cancel=x",
-        "1 calls 2: check session a:b, a, flags 0, id x",
-    ),
-    (
-        "check 1 2 bus:9 / ask cancel=a=b",
-        "1 calls 2: check bus :1.9, /, flags 1, id a=b",
-    ),
-    (
-        "check 1048575 4294967295 bus:1048575 a",
-        "1048575 calls 4294967295: check bus :1.1048575, a, flags 0, id ",
-    ),
-    ("check 0 1 process:1:1 a", "7 Number"),
-    ("check 1 0 process:1:1 a", "7 Number"),
-    ("check 1 4294967296 process:1:1 a", "7 Number"),
-    ("check 1 1 process:x:1 a", "7 Number"),
-    ("check 1 1 process::1 a", "7 Number"),
-    ("check 1 1 process:1:1:1 a", "7 Value"),
-    ("check 1 1 process:1 a", "7 Value"),
-    ("check 1 1 bus:0 a", "7 Number"),
-    ("check 1 1 bus:1048576 a", "7 Number"),
-    ("check 1 1 bus:01 a", "7 Number"),
-    ("check 1 1 bus a", "7 Value"),
-    ("check 1 1 session: a", "7 Value"),
-    ("check 1 x session: a", "7 Number"),
-    ("check 1 1 process:1:1 ", "7 Value"),
-    ("check 1 1 process:1:1 a ask ask", "7 Value"),
-    ("check 1 1 process:1:1 a cancel=x ask", "7 Value"),
-    ("check 1 1 process:1:1 a cancel=", "7 Value"),
-    ("check 1 1 process:1:1 a Ask", "7 Value"),
-    ("check 1 1 process:1:1 a ", "7 Value"),
-    ("check 1 1 process:1:x a no", "7 Number"),
-    ("check 1 1 process:1:1 a ask cancel=x x", "7 Count"),
-    ("check 1 1 process:1:1", "7 Count"),
-    ("cancel 1 2 x", "1 calls 2: cancel x"),
-    ("cancel 1 2 ", "7 Value"),
-    ("cancel 1 2", "7 Count"),
-    (
-        "register 1 2 session:s /a",
-        "1 calls 2: register session s, C, /a",
-    ),
-    ("register 1 2 bus:x ", "7 Number"),
-    ("register 1 2 bus:1 ", "7 Value"),
-    (
-        "unregister 1 2 bus:1 /a",
-        "1 calls 2: unregister bus :1.1, /a",
-    ),
-    ("unregister 1 2 bus:1", "7 Count"),
-    ("respond 1 2 c user:5", "1 calls 2: respond c User(5)"),
-    ("respond 1 2  user:x", "7 Number"),
-    ("respond 1 2  user:5", "7 Value"),
-    ("respond 1 2 c group:5", "7 Value"),
-    ("respond 1 2 c user:5:5", "7 Value"),
-    ("respond 1 2 c user:", "7 Number"),
-    ("return 1 2", "1 returns 2"),
-    ("return 1 0", "7 Number"),
-    ("return 1", "7 Count"),
-    (
-        "dismiss 1 2",
-        "1 fails 2 with org.freedesktop.PolicyKit1.Error.Cancelled",
-    ),
-    (
-        "fail 1 2",
-        "1 fails 2 with org.freedesktop.PolicyKit1.Error.Failed",
-    ),
-    ("grants 1 2 process:1:2", "1 calls 2: grants process 1 2"),
-    ("grants 1 2 x", "7 Value"),
-    ("revoke 1 2 session:s", "1 calls 2: revoke session s"),
-    ("revoke 1 2", "7 Count"),
-    ("revoke-id 1 2 tmpauthz0", "1 calls 2: revoke id tmpauthz0"),
-    ("revoke-id 1 2 ", "7 Value"),
-    ("revoke-all 1 2 x", "7 Word"),
-];
+/// Lines, and what each says.
+const LINES: &str = "# => blank
+ => blank
+# check 1 1 => blank
+chek 1 1 => 7 Word
+ peer 1 1000 => 7 Word
+  => 7 Word
+Peer 1 1000 => 7 Word
+at 5 => at 5
+at 0 => at 0
+at 4611686018427387904 => at 4611686018427387904
+at 4611686018427387905 => 7 Number
+at 05 => 7 Number
+at => 7 Count
+at 5 5 => 7 Count
+action => 7 Count
+action a.yes yes yes => 7 Count
+action a.yes yes yes yes yes => 7 Count
+action a.yes yes no yes => action a.yes Yes No Yes
+action a auth_self_keep auth_admin_keep auth_admin => action a AuthSelfKeep AuthAdminKeep AuthAdmin
+action a yes  yes => 7 Value
+action  yes yes yes => 7 Value
+action a/b yes yes yes => 7 Value
+action a yes yes maybe => 7 Value
+imply a b => imply a b
+imply a => 7 Count
+imply a b c => 7 Count
+imply a b/c => 7 Value
+imply  b => 7 Value
+owner a unix-user:u;unix-group:g => owner a 2 items, unix-user:u first
+owner a x => owner a 1 items, x first
+owner a x; => 7 Value
+owner a ;x => 7 Value
+owner a  => 7 Value
+owner a/ x => 7 Value
+owner a => 7 Count
+entry unix-user:a a.*;b yes - - => entry 1 identities, 2 actions, Some(Yes) None None
+entry a b - auth_self no => entry 1 identities, 1 actions, None Some(AuthSelf) Some(No)
+entry a b - - - => 7 Value
+entry a; b yes - - => 7 Value
+entry a  yes - - => 7 Value
+entry a b maybe - - => 7 Value
+entry a b yes - => 7 Count
+entry a b yes - - - => 7 Count
+admins unix-group:wheel;unix-user:0 => admins 2 items, unix-group:wheel first
+admins  => 7 Value
+admins => 7 Count
+actions 1 2 de_DE => 1 calls 2: actions de_DE
+actions 1 2  => 7 Value
+actions 1 x  => 7 Number
+actions 1 2 => 7 Count
+user 1000 u 5,6 => user 1000 u 2 gids, 5 first
+user 1000 u 5,5 => user 1000 u 2 gids, 5 first
+user 0 root - => user 0 root 0 gids
+user 1 u 1,,2 => 7 Number
+user 1 u  => 7 Number
+user 1 u 1,- => 7 Number
+user 1 u 4294967296 => 7 Number
+user 1  1,x => 7 Number
+user 1  1 => 7 Value
+user 1 u => 7 Count
+group 10 wheel => group 10 wheel
+group 10  => 7 Value
+group x  => 7 Number
+group 10 => 7 Count
+session s1 1000 local active => session s1 1000 true true
+session - 0 remote idle => session - 0 false false
+session s1 1 local on => 7 Value
+session s1 1 Local idle => 7 Value
+session  x far on => 7 Number
+session s1 1 local => 7 Count
+process 1 2 3 - => process 1 2 3 -
+process 1 2 3 s1 => process 1 2 3 s1
+process 4294967295 18446744073709551615 4294967295 - => process 4294967295 18446744073709551615 4294967295 -
+process 4294967296 1 1 - => 7 Number
+process 1 18446744073709551616 1 - => 7 Number
+process 1 1 4294967296 - => 7 Number
+process 01 1 1 - => 7 Number
+process +1 1 1 - => 7 Number
+process  1 1 - => 7 Number
+process 1 1 1  => 7 Value
+process 1 1 1 => 7 Count
+gone-process 1 2 => gone process 1 2
+gone-process 1 => 7 Count
+gone-process 1 - => 7 Number
+gone-session s => gone session s
+gone-session  => 7 Value
+gone-session => 7 Count
+gone-action a => gone action a
+gone-action a b => 7 Count
+gone-action / => 7 Value
+reload => reload
+reload  => 7 Count
+peer 1 1000 => 1 connects 1000
+peer 1048575 4294967295 => 1048575 connects 4294967295
+peer 0 1 => 7 Number
+peer 1048576 1 => 7 Number
+peer 1 4294967296 => 7 Number
+peer 1 => 7 Count
+peer 1 1 1 => 7 Count
+depart 1 => 1 departs
+depart 0 => 7 Number
+depart => 7 Count
+announce 1 2 51 8 => 1 calls 2: announce 51 8
+announce 1 2 51 x => 7 Number
+announce 1 2 51 => 7 Count
+check 1 2 process:51:8 a.yes => 1 calls 2: check process 51 8, a.yes, flags 0, id 
+check 1 2 session:s1 a ask => 1 calls 2: check session s1, a, flags 1, id 
+check 1 2 session:a:b a cancel=x => 1 calls 2: check session a:b, a, flags 0, id x
+check 1 2 bus:9 / ask cancel=a=b => 1 calls 2: check bus :1.9, /, flags 1, id a=b
+check 1048575 4294967295 bus:1048575 a => 1048575 calls 4294967295: check bus :1.1048575, a, flags 0, id 
+check 0 1 process:1:1 a => 7 Number
+check 1 0 process:1:1 a => 7 Number
+check 1 4294967296 process:1:1 a => 7 Number
+check 1 1 process:x:1 a => 7 Number
+check 1 1 process::1 a => 7 Number
+check 1 1 process:1:1:1 a => 7 Value
+check 1 1 process:1 a => 7 Value
+check 1 1 bus:0 a => 7 Number
+check 1 1 bus:1048576 a => 7 Number
+check 1 1 bus:01 a => 7 Number
+check 1 1 bus a => 7 Value
+check 1 1 session: a => 7 Value
+check 1 x session: a => 7 Number
+check 1 1 process:1:1  => 7 Value
+check 1 1 process:1:1 a ask ask => 7 Value
+check 1 1 process:1:1 a cancel=x ask => 7 Value
+check 1 1 process:1:1 a cancel= => 7 Value
+check 1 1 process:1:1 a Ask => 7 Value
+check 1 1 process:1:1 a  => 7 Value
+check 1 1 process:1:x a no => 7 Number
+check 1 1 process:1:1 a ask cancel=x x => 7 Count
+check 1 1 process:1:1 => 7 Count
+cancel 1 2 x => 1 calls 2: cancel x
+cancel 1 2  => 7 Value
+cancel 1 2 => 7 Count
+register 1 2 session:s /a => 1 calls 2: register session s, C, /a
+register 1 2 bus:x  => 7 Number
+register 1 2 bus:1  => 7 Value
+unregister 1 2 bus:1 /a => 1 calls 2: unregister bus :1.1, /a
+unregister 1 2 bus:1 => 7 Count
+respond 1 2 c user:5 => 1 calls 2: respond c User(5)
+respond 1 2  user:x => 7 Number
+respond 1 2  user:5 => 7 Value
+respond 1 2 c group:5 => 7 Value
+respond 1 2 c user:5:5 => 7 Value
+respond 1 2 c user: => 7 Number
+return 1 2 => 1 returns 2
+return 1 0 => 7 Number
+return 1 => 7 Count
+dismiss 1 2 => 1 fails 2 with org.freedesktop.PolicyKit1.Error.Cancelled
+fail 1 2 => 1 fails 2 with org.freedesktop.PolicyKit1.Error.Failed
+grants 1 2 process:1:2 => 1 calls 2: grants process 1 2
+grants 1 2 x => 7 Value
+revoke 1 2 session:s => 1 calls 2: revoke session s
+revoke 1 2 => 7 Count
+revoke-id 1 2 tmpauthz0 => 1 calls 2: revoke id tmpauthz0
+revoke-id 1 2  => 7 Value
+revoke-all 1 2 x => 7 Word";
 
 /// A line: its beginning, a byte and how often it follows, and its end; and what it says.
 type LongRow = (&'static str, u8, usize, &'static str, &'static str);
@@ -487,8 +438,8 @@ fn long_shown(alloc: Global, row: &LongRow) -> Result<String, AllocError> {
 
 #[test]
 fn lines_are_read(rt: HostRuntime) -> Result<(), Fail> {
-    for row in LINES.iter() {
-        let (line, want) = *row;
+    for row in LINES.lines() {
+        let (line, want) = row.split_once(" => ").expect(&rt, row);
         let said = shown(rt.alloc(), line.as_bytes())?;
         assert_eq!(rt; said.as_str(), want, "at {line}");
     }

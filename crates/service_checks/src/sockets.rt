@@ -7,12 +7,7 @@ use pkcheck_tool::{CheckStatus, pkcheck};
 use polkit_daemon::polkitd;
 use script_agent::{AgentStatus, script_agent};
 use std::alloc::Global;
-use std::env::Env;
-use std::fs::{self, Files};
-use std::io;
-use std::net::Net;
-use std::process::Abort;
-use std::random::RandomSource;
+use std::fs;
 use std::sync::Wait;
 use std::test::Fail;
 use std::thread::{Threads, join};
@@ -218,97 +213,53 @@ const LINES: &[(&str, &str)] = &[
     ("entries ", " loads 1 refused 0"),
 ];
 
-/// The status of the agent and that of the check, each with whether it wrote what it has to. Nothing
-/// where it could not run.
-type Clients = (Option<(AgentStatus, bool)>, Option<(CheckStatus, bool)>);
-
-/// The same with the code of the service before it.
-type Came = (Option<(u8, bool)>, Clients);
-
-/// Runs the agent and the check beside each other.
-fn run_clients<R: Threads + Wait + Clock + Net + Files + RandomSource + AllocGlobal + Sync>(
-    rt: &R,
-    commands: &Commands,
-    board: &Board,
-) -> Clients {
-    join(
-        rt,
-        move || attend_over(
-            rt,
-            commands.agent.as_slice(),
-            socket_station(rt).ok()?,
-            board,
-        ),
-        move || check_over(
-            rt,
-            commands.check.as_slice(),
-            socket_station(rt).ok()?,
-            board,
-        ),
-    )
-}
-
-/// Runs the service beside its clients, and tells when all have ended.
-fn run_all<R: Threads + Wait + Clock + Net + Files + RandomSource + AllocGlobal + Sync>(
-    rt: &R,
-    commands: &Commands,
-    board: &Board,
-) -> Came {
-    let came = join(
-        rt,
-        move || serve_over(
-            rt,
-            commands.serve.as_slice(),
-            socket_station(rt).ok()?,
-            board,
-        ),
-        move || run_clients(rt, commands, board),
-    );
-    board.over.add(1);
-    came
-}
-
-/// The same. A run that does not end ends the process.
-fn run_in_time<R: Threads + Wait + Abort + Clock + Net + Files + RandomSource + AllocGlobal + Sync>(
-    rt: &R,
-    commands: &Commands,
-    board: &Board,
-) -> Came {
-    let ((), came) = join(
-        rt,
-        move || {
-            let ends = board.over.reaches_within(rt, 1, TURNS_OF_RUN);
-            assert!(rt; ends, "the run does not end");
-        },
-        move || run_all(rt, commands, board),
-    );
-    came
-}
-
-/// The same over sockets in a folder.
-fn run_in<R: Threads + Wait + Abort + Clock + Net + Files + RandomSource + AllocGlobal + Sync>(
-    rt: &R,
-    folder: &str,
-) -> Result<Came, NoMemory> {
-    let commands = words_for(rt.alloc(), folder)?;
-    let board = Board::new();
-    Ok(run_in_time(rt, &commands, &board))
-}
-
-/// The same in a new folder, and whether this is removed behind it.
-fn run_in_new_folder<
-    R: Threads + Wait + Abort + Clock + Net + Files + Env + RandomSource + AllocGlobal + Sync,
->(rt: &R) -> io::Result<(Option<Came>, bool)> {
-    let folder = new_folder(rt)?;
-    let came = run_in(rt, folder.as_str()).ok();
-    let removed = fs::remove_dir(rt, folder.as_str());
-    Ok((came, removed.is_ok()))
-}
-
 #[test]
 fn agent_over_sockets(rt: HostRuntime) -> Result<(), Fail> {
-    let (came, is_removed) = run_in_new_folder(&rt)?;
-    let (service, (agent, check)) = came.expect(&rt, "the words");
+    let folder = new_folder(&rt)?;
+    let (service, (agent, check)) = {
+        let commands = words_for(rt.alloc(), folder.as_str())?;
+        let board = Board::new();
+        let (host, commands, board) = (&rt, &commands, &board);
+        let ((), came) = join(
+            host,
+            move || {
+                let ends = board.over.reaches_within(host, 1, TURNS_OF_RUN);
+                assert!(host; ends, "the run does not end");
+            },
+            move || {
+                let came = join(
+                    host,
+                    move || serve_over(
+                        host,
+                        commands.serve.as_slice(),
+                        socket_station(host).ok()?,
+                        board,
+                    ),
+                    move || {
+                        join(
+                            host,
+                            move || attend_over(
+                                host,
+                                commands.agent.as_slice(),
+                                socket_station(host).ok()?,
+                                board,
+                            ),
+                            move || check_over(
+                                host,
+                                commands.check.as_slice(),
+                                socket_station(host).ok()?,
+                                board,
+                            ),
+                        )
+                    },
+                );
+                board.over.add(1);
+                came
+            },
+        );
+        came
+    };
+    let is_removed = fs::remove_dir(&rt, folder.as_str()).is_ok();
     assert_eq!(rt; check, Some((CheckStatus::Yes, true)));
     assert_eq!(rt; agent, Some((AgentStatus::Done, true)));
     assert_eq!(rt; service, Some((0, true)));
