@@ -126,14 +126,6 @@ pub fn output(alloc: Global, fault: u64) -> Result<ByteSink, NoMemory> {
     ByteSink::new(alloc, ROOM, ROOM, failing)
 }
 
-/// A source of these bytes, at most so many in a read, of which a read fails.
-fn source(alloc: Global, given: &[u8], piece: usize, fault: u64) -> Result<ByteSource, NoMemory> {
-    let (given, _) = given.split_at(given.len().min(ROOM));
-    let failing = vec![in alloc; fault]?;
-    let bytes = given.to_vec(alloc)?;
-    Ok(ByteSource::new(bytes, piece.max(1), failing))
-}
-
 /// A link that gives these bytes, at most so many in a read.
 pub fn link(
     alloc: Global,
@@ -142,8 +134,12 @@ pub fn link(
     faults: Faults,
 ) -> Result<ByteLink, NoMemory> {
     let given = joined(alloc, given)?;
-    let source = source(alloc, given.as_slice(), piece, faults.read)?;
-    let sink = output(alloc, faults.write)?;
+    let (given, _) = given.as_slice().split_at(given.len().min(ROOM));
+    let bytes = given.to_vec(alloc)?;
+    let reads = vec![in alloc; faults.read]?;
+    let writes = vec![in alloc; faults.write]?;
+    let sink = ByteSink::new(alloc, ROOM, ROOM, writes)?;
+    let source = ByteSource::new(bytes, piece.max(1), reads);
     Ok(ByteLink::new(source, sink))
 }
 
