@@ -3,7 +3,7 @@ ghost use Rattle.std.specs.Prelude.{◌≡◌, All};
 ghost use Rattle.authority_model.specs.Entering.{AreAllowed};
 ghost use Rattle.service_slots.specs.Stops.{NoneEnded};
 
-use crate::passes::{close, new_pass};
+use crate::passes::close;
 use authority_model::Limits;
 use empty_station::EmptyStation;
 use history_lock::{Opened, Pass, TableName, open_table};
@@ -15,6 +15,7 @@ use std::alloc::Global;
 use std::marker::Brand;
 use std::sync::Wait;
 use std::thread::Threads;
+use test_parts::new_pass;
 
 #[test]
 fn closed_doors_stop_their_slots(rt: HostRuntime) {

@@ -3,7 +3,7 @@ ghost use Rattle.std.specs.Prelude.{◌≡◌, []};
 ghost use Rattle.authority_model.specs.Entering.{AreAllowed};
 ghost use Rattle.authority_model.specs.Given.{IsStepped};
 
-use crate::passes::{begin, close, is_entered};
+use crate::passes::{close, is_entered};
 use authority_model::{Call, Event, Limits, Loaded, MAX_BYTES};
 use history_lock::{EndCause, Opened, Pass, TableName, open_table};
 use pk_outside::ListTree;
@@ -15,6 +15,7 @@ use std::marker::Brand;
 use std::sync::Wait;
 use std::test::Fail;
 use std::thread::Threads;
+use test_parts::begin;
 
 /// Room for the five entries before the loader's first.
 const FIVE_ENTRIES: Limits = Limits {

@@ -6,7 +6,7 @@ ghost use Rattle.history_lock.specs.Entries.{NoneBy};
 ghost use Rattle.shared_authority.specs.Journals.{caller_of};
 ghost use Rattle.connection_writer.specs.Writing.{StandsAt};
 
-use crate::passes::{has_place, is_entered, new_pass};
+use crate::passes::{has_place, is_entered};
 use authority_model::{Call, Event, Limits};
 use connection_writer::{
     Begun, Desk, Writer, WriterEnd, submit_at_desk, write_answers, write_as_it_comes,
@@ -20,6 +20,7 @@ use std::alloc::Global;
 use std::marker::Brand;
 use std::sync::{Mutex, Wait};
 use std::test::Fail;
+use test_parts::new_pass;
 
 /// The type, the serial and the reply serial of a message.
 type Head = (u8, u32, Option<u32>);
