@@ -119,7 +119,7 @@ impl Authority {
 
     /// Whether the journal takes no further entry: it has as many entries, or as many counted bytes,
     /// as its limits say.
-    fn is_full(&self) -> bool
+    pub fn is_full(&self) -> bool
         ensures full { result ≡ is_full self.now.limits (items_of self.now.history) }
     {
         self.limits.entries <= self.history.entries.len() as u64 || self.limits.bytes <= self.bytes
