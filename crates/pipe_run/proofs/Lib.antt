@@ -1,6 +1,8 @@
 pub mod Loads
 pub mod Newest
 pub mod Takings
+pub mod Posting
+pub mod Outboxes
 pub mod Staging
 pub mod Waiting
 pub mod Following

@@ -10,11 +10,13 @@ use Rattle.pipe_run.specs.declared.ends.PipeEnd.{PipeEnd}
 use Rattle.pipe_run.specs.declared.ends.PipeEnd.TheVariants as end
 use Rattle.pipe_run.specs.declared.ends.Stopped.{Stopped}
 use Rattle.pipe_run.specs.declared.ends.Stopped.TheVariants as stopped
-use Rattle.pipe_run.specs.Answered.{FaultIn}
+use Rattle.pipe_run.specs.Answered.{FaultIn, IsWrittenOut, Service}
 use Rattle.pipe_run.specs.Faults.{InputFaults, OutputFaults, ReadsNothing}
-use Rattle.pipe_run.specs.Stages.{Running, Stage, Standing, Start}
+use Rattle.pipe_run.specs.Stages.{Running, Stage, Standing, Start, standing}
 use Rattle.pipe_run.specs.Stops.{end_of}
+use Rattle.pipe_run.specs.Supplies.{Supply}
 use Rattle.pipe_run.proofs.Following.{more_bytes, next_message}
+use Rattle.pipe_run.proofs.Staging.{staged_out}
 use Rattle.pipe_run.proofs.Written.{fails_later}
 
 -- the message was answered
@@ -27,6 +29,17 @@ answered_on s now new l0 l pending pending' used m r form is turned = subst (Run
   follow = next_message r.read r.messages pending used m r.follow form;
   stage = turned r.messages r.stage;
 })
+
+-- what was kept was written, or the first of it
+pub out_on : (s : Start) (old new : Service) (faults : ℕ) (clock salt : Supply) (held held_after : Option (List ℕ)) (l0 l : Option (List ℕ)) (pending : List ℕ) → IsWrittenOut old held new held_after → Running s (standing old faults clock salt held) l0 l pending
+    → Running s (standing new faults clock salt held_after) l0 l pending
+out_on s old new faults clock salt held held_after l0 l pending w r = record {
+  read = r.read;
+  messages = r.messages;
+  gave = r.gave;
+  follow = r.follow;
+  stage = staged_out s old new faults clock salt held held_after r.messages w r.stage;
+}
 
 -- more bytes were read
 pub more_read : (s : Start) (now : Standing) (l0 l l' : Option (List ℕ)) (pending pending' got : List ℕ) → Running s now l0 l pending → Gave l l' got → pending' ≡ pending ++ got → Running s now l0 l' pending'

@@ -1,7 +1,7 @@
 -- What the authority of a connection does with one thing that is handed in.
-use Rattle.std.specs.Prelude.{◌≡◌, ℕ, ◌≤◌, ◌^◌, ◌⊎◌, true, false, List, [], ◌∷◌, Option, Result, Ok, Err, length}
+use Rattle.std.specs.Prelude.{◌≡◌, ℕ, ◌≤◌, ◌^◌, ◌⊎◌, true, false, List, [], ◌∷◌, ◌++◌, Option, Result, Ok, Err, length}
 use Rattle.pk_outside.specs.Causes.{FailsLast}
-use Rattle.pk_outside.specs.Streams.{Got, GotFront}
+use Rattle.pk_outside.specs.Streams.{GotUpTo}
 use Rattle.authority_model.specs.declared.journal.Item.{Item}
 use Rattle.authority_model.specs.declared.journal.Limits.{Limits}
 use Rattle.authority_model.specs.Entering.{counted_bytes, is_full}
@@ -14,15 +14,16 @@ use Rattle.pipe_run.specs.declared.served.Submission.TheVariants as submission
 use Rattle.pipe_run.specs.declared.served.TheConstants.{CONNECTION, LOADER}
 use Rattle.pipe_run.specs.Bytes.{newest_bytes}
 
--- The authority of a connection: the limits of its journal, its items, and how many messages the connection was sent.
+-- The authority of a connection: the limits of its journal, its items, how many messages the connection was sent, and the bytes of these that were not written yet.
 pub record Service : Type 0 where
   pub limits : Limits
   pub past : List Item
   pub sent : ℕ
+  pub unsent : List ℕ
 
 -- an authority that was handed in nothing
 abbrev pub fresh : Limits → Service
-fresh limits = record { limits = limits; past = []; sent = 0 }
+fresh limits = record { limits = limits; past = []; sent = 0; unsent = [] }
 
 -- what is handed in
 abbrev pub given_of : Submission → Given
@@ -49,28 +50,42 @@ pub record IsFilled (old new : Service) (entries bytes : ℕ) : Type 0 where
 
 -- it was entered, or refused
 abbrev pub Submits : Service → Given → Service → Result (Unit {0}) Stopped → Type 0
-Submits old g new (Ok done) = IsAdded old g new × (new.sent ≡ old.sent)
+Submits old g new (Ok done) = IsAdded old g new × (new.sent ≡ old.sent) × (new.unsent ≡ old.unsent)
 Submits old g new (Err (stopped.JournalFull entries bytes)) = IsFilled old new entries bytes
 Submits old g new (Err stopped.WriteFault) = ⊥
 Submits old g new (Err stopped.NoMemory) = new ≡ old
 
--- a prefix of these bytes was written, where this stopped it
-abbrev pub StopsAt : Option (List ℕ) → Option (List ℕ) → List ℕ → Stopped → Type 0
-StopsAt before held bytes (stopped.JournalFull entries size) = ⊥
-StopsAt before held bytes stopped.WriteFault = GotFront before held bytes
-StopsAt before held bytes stopped.NoMemory = GotFront before held bytes
+-- What is handed in next is refused at most where all that was sent was written.
+abbrev pub IsReady : Service → Type 0
+IsReady service = is_full service.limits service.past ≡ true → service.unsent ≡ []
 
--- these bytes were written, or a prefix of them
-abbrev pub Writes : {A : Type 0} → Option (List ℕ) → Option (List ℕ) → List ℕ → Result A Stopped → Type 0
-Writes before held bytes (Ok done) = Got before held bytes
-Writes before held bytes (Err why) = StopsAt before held bytes why
+-- it was entered, and what it sends to the connection is kept to be written; or this stopped it
+abbrev pub Answers : Service → Given → Service → Result (Unit {0}) Stopped → Type 0
+Answers old g new (Ok done) = IsAdded old g new × (new.sent ≡ sent new.past CONNECTION) × (new.unsent ≡ old.unsent ++ newest_bytes CONNECTION new.past)
+Answers old g new (Err (stopped.JournalFull entries bytes)) = IsFilled old new entries bytes
+Answers old g new (Err stopped.WriteFault) = ⊥
+Answers old g new (Err stopped.NoMemory) = (new ≡ old) ⊎ IsAdded old g new
 
--- it was entered, and what it sends to the connection was written; or this stopped it
-abbrev pub Answers : Service → Given → Service → Option (List ℕ) → Option (List ℕ) → Result (Unit {0}) Stopped → Type 0
-Answers old g new before held (Ok done) = IsAdded old g new × (new.sent ≡ sent new.past CONNECTION) × Got before held (newest_bytes CONNECTION new.past)
-Answers old g new before held (Err (stopped.JournalFull entries bytes)) = IsFilled old new entries bytes × (held ≡ before)
-Answers old g new before held (Err stopped.WriteFault) = IsAdded old g new × GotFront before held (newest_bytes CONNECTION new.past)
-Answers old g new before held (Err stopped.NoMemory) = ((new ≡ old) × (held ≡ before)) ⊎ (IsAdded old g new × GotFront before held (newest_bytes CONNECTION new.past))
+-- The first of what was kept was written, and nothing else changed.
+pub record IsWrittenOut (old : Service) (held : Option (List ℕ)) (new : Service) (held_after : Option (List ℕ)) : Type 0 where
+  pub limits : new.limits ≡ old.limits
+  pub past : new.past ≡ old.past
+  pub sent : new.sent ≡ old.sent
+  pub out : GotUpTo held held_after old.unsent new.unsent
+
+-- nothing but want of memory stops it
+abbrev pub OnlyMemory : {A : Type 0} → Result A Stopped → Type 0
+OnlyMemory (Ok done) = Unit {0}
+OnlyMemory (Err (stopped.JournalFull entries bytes)) = ⊥
+OnlyMemory (Err stopped.WriteFault) = ⊥
+OnlyMemory (Err stopped.NoMemory) = Unit {0}
+
+-- nothing but a write fault stops it
+abbrev pub OnlyWriting : {A : Type 0} → Result A Stopped → Type 0
+OnlyWriting (Ok done) = Unit {0}
+OnlyWriting (Err (stopped.JournalFull entries bytes)) = ⊥
+OnlyWriting (Err stopped.WriteFault) = Unit {0}
+OnlyWriting (Err stopped.NoMemory) = ⊥
 
 -- a write fault was counted by the last write, and by no write before it; all else leaves the count
 abbrev pub FaultIn : {S : Type 0} → (S → Option (List ℕ)) → (S → ℕ) → S → S → Stopped → Type 0

@@ -29,7 +29,7 @@ pub record Start : Type 0 where
   pub salt : Supply
   pub held : Option (List ℕ)
 
--- Where it stands: the authority, how often the tree has failed, what the clock and the salt gave, and what the output holds.
+-- Where it stands: the authority with what it has not written yet, how often the tree has failed, what the clock and the salt gave, and what the output holds.
 pub record Standing : Type 0 where
   pub service : Service
   pub faults : ℕ
@@ -39,6 +39,12 @@ pub record Standing : Type 0 where
 
 abbrev pub standing : Service → ℕ → Supply → Supply → Option (List ℕ) → Standing
 standing service faults clock salt held = record { service = service; faults = faults; clock = clock; salt = salt; held = held }
+
+-- What was sent is what the output got, and what is kept to be written.
+pub record IsPosted (before held : Option (List ℕ)) (unsent all : List ℕ) : Type 0 where
+  pub written : List ℕ
+  pub got : Got before held written
+  pub all_is : written ++ unsent ≡ all
 
 -- what was handed in was entered and answered, up to these messages
 pub record Stage (s : Start) (now : Standing) (messages : List Seen) : Type 0 where
@@ -50,7 +56,7 @@ pub record Stage (s : Start) (now : Standing) (messages : List Seen) : Type 0 wh
   pub legal : Legal now.service.past
   pub moments : Took s.clock now.clock (moments_of given)
   pub words : Took s.salt now.salt (words_of given)
-  pub written : Got s.held now.held (sent_bytes CONNECTION now.service.past)
+  pub posted : IsPosted s.held now.held now.service.unsent (sent_bytes CONNECTION now.service.past)
 
 -- What was entered and what was refused, and how far that came, where a run is stopped.
 pub record Halt : Type 0 where
@@ -99,14 +105,13 @@ abbrev pub Turns : Option TreeTold → List ℕ → Standing → Standing → Li
 Turns told root old new asked result =
     (s : Start) (messages : List Seen) → s.opening.told ≡ told → s.opening.root ≡ root → Stage s old messages → Turned s new messages (messages ++ asked) result
 
--- the connection's departure was answered, or stopped
-pub record IsDeparting (old : Standing) (new : Standing) (result : Result (Unit {0}) Stopped) : Type 0 where
+-- the connection's departure was answered, or stopped, with what was taken of the clock and of the salt
+pub record IsDeparting (old : Service) (clock salt : Supply) (new : Service) (clock_after salt_after : Supply) (result : Result (Unit {0}) Stopped) : Type 0 where
   pub g : Given
   pub departs : g ≡ depart_given g.moment g.salt
-  pub answers : Answers old.service g new.service old.held new.held result
-  pub moment : Took old.clock new.clock (g.moment ∷ [])
-  pub word : Took old.salt new.salt (g.salt ∷ [])
-  pub faults : new.faults ≡ old.faults
+  pub answers : Answers old g new result
+  pub moment : Took clock clock_after (g.moment ∷ [])
+  pub word : Took salt salt_after (g.salt ∷ [])
 
 -- the first load and the beginning of the connection of this user were answered
 abbrev pub Opens : ℕ → Loaded → Standing → Standing → Result (Unit {0}) Stopped → Type 0

@@ -5,6 +5,7 @@
 #![tactic(auto)]
 
 mod ends;
+mod outbox;
 mod running;
 mod served;
 mod turning;

@@ -28,6 +28,7 @@ fn end_of_input<C: Clock, S: Salt, O: Sink>(
 ) -> PipeEnd
     requires counted { served.old.sent ≡ sent served.old.past CONNECTION }
     requires waits { awaits_message served.old.past ≡ true }
+    requires written { served.old.unsent ≡ [] }
     ensures run { EndsInput (standing served.old 0 (supply (C.left clock.old) (C.gave clock.old)) (supply (S.left salt.old) (S.gave salt.old)) (O.held output.old)) (standing served.new 0 (supply (C.left clock.new) (C.gave clock.new)) (supply (S.left salt.new) (S.gave salt.new)) (O.held output.new)) rest result }
     ensures unread { ReadsNothing result }
     ensures write { OutputFaults O.held O.faults output.old output.new result }
@@ -35,13 +36,17 @@ fn end_of_input<C: Clock, S: Salt, O: Sink>(
     if rest != 0 {
         return PipeEnd::Truncated { rest: rest as u64 };
     }
-    match depart(served, clock, salt, output) {
+    if let Err(stopped) = depart(served, clock, salt) {
+        return stopped.end();
+    }
+    match served.write_out(output) {
         Ok(()) => PipeEnd::Done,
         Err(stopped) => stopped.end(),
     }
 }
 
-/// Answers the messages of the input one after another, until it ends or the first fault comes.
+/// Answers the messages of the input one after another, until it ends or the first fault comes. The
+/// answers are written before more is read.
 fn serve<T: Tree, C: Clock, S: Salt, I: Source, O: Sink>(
     served: &mut Served,
     root: &Text,
@@ -70,12 +75,18 @@ fn serve<T: Tree, C: Clock, S: Salt, I: Source, O: Sink>(
                 }
             }
             Next::Bad { kind, at } => {
-                return PipeEnd::BadBytes {
-                    kind,
-                    at: at as u64,
+                return match served.write_out(output) {
+                    Ok(()) => PipeEnd::BadBytes {
+                        kind,
+                        at: at as u64,
+                    },
+                    Err(stopped) => stopped.end(),
                 };
             }
             Next::Partial => {
+                if let Err(stopped) = served.write_out(output) {
+                    return stopped.end();
+                }
                 let wanted = awaited(buffer.bytes());
                 match buffer.fill(input, wanted) {
                     Filled::There => {}
@@ -98,8 +109,9 @@ fn serve<T: Tree, C: Clock, S: Salt, I: Source, O: Sink>(
 /// The first load is handed in first, then the beginning of the connection, then what each message
 /// asks; directly behind an entry that asks for a load, what the load of the root gives, or the
 /// number of the cause of its refusal; and at the end of the input the end of the connection. All
-/// that is handed in takes one reading of the clock, and the connection's own a random word. What
-/// was answered before a fault stays written.
+/// that is handed in takes one reading of the clock, and the connection's own a random word. The
+/// answers are written before more is read, and what was answered before a fault is written too. Only
+/// where memory is refused the last of it may lack.
 ///
 /// # Errors
 /// `BadBytes` exactly where a message has a fault, with the first one and its place; `Truncated`

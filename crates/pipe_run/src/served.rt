@@ -1,17 +1,18 @@
 // The authority of one connection, and what it was sent.
-ghost use Rattle.std.specs.Prelude.{◌≡◌, IfOk, OnOk};
+ghost use Rattle.std.specs.Prelude.{◌≡◌, ◌++◌, [], IfOk, OnOk};
 ghost use Rattle.authority_model.specs.Entering.{AreAllowed};
 ghost use Rattle.authority_model.specs.Given.{event_given, load_given};
 ghost use Rattle.authority_model.specs.Items.{sent};
 ghost use Rattle.authority_model.specs.Legal.{Legal};
 ghost use Rattle.authority_model.specs.Lists.{any_of};
-ghost use Rattle.pipe_run.specs.Answered.{Answers, IsSubmittable, Submits, Writes, WriteFaults, fresh, given_of};
+ghost use Rattle.pipe_run.specs.Answered.{Answers, IsReady, IsSubmittable, IsWrittenOut, OnlyMemory, OnlyWriting, Submits, WriteFaults, fresh, given_of};
 ghost use Rattle.pipe_run.specs.Bytes.{newest_bytes, sent_before};
 ghost use Rattle.pipe_run.specs.declared.served.Submission.TheVariants as submission;
 ghost use Rattle.pipe_run.specs.Handed.{is_load_wanted, newest_wants_load};
 
 use crate::ends::Stopped;
-use crate::writing::write_outputs;
+use crate::outbox::Outbox;
+use crate::writing::put_outputs;
 use authority_core::{Authority, LoadStepRefused, StepRefused};
 use authority_model::{Entry, Event, Limits, Loaded, Message, Output};
 use pk_outside::Sink;
@@ -42,12 +43,14 @@ pub enum Submission {
     },
 }
 
-/// The authority of one connection, with how many messages this was sent.
+/// The authority of one connection, with how many messages this was sent, and those of their bytes
+/// that were not written yet.
 #[derive(Drop)]
 pub struct Served {
     alloc: Global,
     authority: Authority,
     sent: u32,
+    outbox: Outbox,
 }
 
 impl Model for Served {
@@ -56,7 +59,7 @@ impl Model for Served {
 
     ghost Value = { Service };
 
-    ghost view = { λ s. record { limits = s.authority.limits; past = items_of s.authority.history; sent = s.sent } };
+    ghost view = { λ s. record { limits = s.authority.limits; past = items_of s.authority.history; sent = s.sent; unsent = s.outbox } };
 }
 
 /// Whether an output asks for a load.
@@ -87,6 +90,7 @@ impl Served {
             alloc,
             authority,
             sent: 0,
+            outbox: Outbox::new(alloc),
         })
     }
 
@@ -150,39 +154,58 @@ impl Served {
         }
     }
 
-    /// Writes what the newest entry sends to the connection.
-    fn write_newest<O: Sink>(&mut self, output: &mut O) -> Result<(), Stopped>
+    /// Keeps what the newest entry sends to the connection, so that it is written.
+    fn keep_newest(&mut self) -> Result<(), Stopped>
         requires counted { self.old.sent ≡ sent_before CONNECTION self.old.past }
-        ensures writes { Writes (O.held output.old) (O.held output.new) (newest_bytes CONNECTION self.old.past) result }
         ensures limits { self.new.limits ≡ self.old.limits }
         ensures past { self.new.past ≡ self.old.past }
         ensures sent { OnOk result (self.new.sent ≡ sent self.new.past CONNECTION) }
-        ensures faults { WriteFaults O.held O.faults output.old output.new result }
+        ensures unsent { OnOk result (self.new.unsent ≡ self.old.unsent ++ newest_bytes CONNECTION self.old.past) }
+        ensures refused { OnlyMemory result }
     {
         let history = self.authority.history();
         let Some(entry) = history.entries.as_slice().last() else {
             return Ok(());
         };
-        self.sent = write_outputs(
-            self.alloc,
-            history,
-            entry.outputs.as_slice(),
-            self.sent,
-            output,
-        )?;
+        let outputs = entry.outputs.as_slice();
+        self.sent = put_outputs(self.alloc, history, outputs, self.sent, &mut self.outbox)?;
         Ok(())
     }
 
-    /// Hands something in, and writes what its entry sends to the connection.
-    pub fn answer<O: Sink>(&mut self, submission: Submission, output: &mut O) -> Result<(), Stopped>
+    /// Hands something in, and keeps what its entry sends to the connection, so that it is written.
+    pub fn answer(&mut self, submission: Submission) -> Result<(), Stopped>
         requires submittable { IsSubmittable submission }
         requires counted { self.old.sent ≡ sent self.old.past CONNECTION }
-        ensures answers { Answers self.old (given_of submission) self.new (O.held output.old) (O.held output.new) result }
+        ensures answers { Answers self.old (given_of submission) self.new result }
         ensures legal { Legal self.new.past }
-        ensures faults { WriteFaults O.held O.faults output.old output.new result }
     {
         self.submit(submission)?;
-        self.write_newest(output)
+        self.keep_newest()
+    }
+
+    /// Writes all that the connection was sent.
+    pub fn write_out<O: Sink>(&mut self, output: &mut O) -> Result<(), Stopped>
+        ensures written { IsWrittenOut self.old (O.held output.old) self.new (O.held output.new) }
+        ensures all { OnOk result (self.new.unsent ≡ []) }
+        ensures faults { WriteFaults O.held O.faults output.old output.new result }
+        ensures refused { OnlyWriting result }
+    {
+        self.outbox.write_out(output)?;
+        Ok(())
+    }
+
+    /// Writes all that the connection was sent, where it has become much, and where the journal is
+    /// full: what is handed in next is refused then, and ends the run.
+    pub fn make_room<O: Sink>(&mut self, output: &mut O) -> Result<(), Stopped>
+        ensures written { IsWrittenOut self.old (O.held output.old) self.new (O.held output.new) }
+        ensures ready { OnOk result (IsReady self.new) }
+        ensures faults { WriteFaults O.held O.faults output.old output.new result }
+        ensures refused { OnlyWriting result }
+    {
+        if self.outbox.is_long() || self.authority.is_full() {
+            return self.write_out(output);
+        }
+        Ok(())
     }
 
     /// Whether the newest entry asks for a load.

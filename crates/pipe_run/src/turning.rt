@@ -33,25 +33,21 @@ pub fn open<C: Clock, S: Salt, O: Sink>(
     ensures waits { OnOk result (awaits_message served.new.past ≡ true) }
     ensures faults { WriteFaults O.held O.faults output.old output.new result }
 {
+    served.make_room(output)?;
     let moment = clock.now();
-    served.answer(
-        Submission::Load {
-            moment,
-            loaded: first,
-        },
-        output,
-    )?;
+    served.answer(Submission::Load {
+        moment,
+        loaded: first,
+    })?;
+    served.make_room(output)?;
     let moment = clock.now();
     let salt = salt.word();
-    served.answer(
-        Submission::Event {
-            caller: CONNECTION,
-            moment,
-            salt,
-            event: Event::Connect { uid },
-        },
-        output,
-    )
+    served.answer(Submission::Event {
+        caller: CONNECTION,
+        moment,
+        salt,
+        event: Event::Connect { uid },
+    })
 }
 
 /// What is handed in for a load: the load, or the number of the cause of its refusal.
@@ -89,9 +85,10 @@ fn load_again<T: Tree, C: Clock, O: Sink>(
     ensures same { T.told tree.new ≡ T.told tree.old }
     ensures faults { WriteFaults O.held O.faults output.old output.new result }
 {
+    served.make_room(output)?;
     let gave = load(served.alloc(), tree, root);
     let moment = clock.now();
-    served.answer(submission_of(gave, moment), output)
+    served.answer(submission_of(gave, moment))
 }
 
 /// Hands in what a message asks, and loads again where its entry asks for it.
@@ -113,44 +110,37 @@ pub fn take_message<T: Tree, C: Clock, S: Salt, O: Sink>(
     ensures faults { WriteFaults O.held O.faults output.old output.new result }
 {
     let event = event_of(served.alloc(), message)?;
+    served.make_room(output)?;
     let moment = clock.now();
     let salt = salt.word();
-    served.answer(
-        Submission::Event {
-            caller: CONNECTION,
-            moment,
-            salt,
-            event,
-        },
-        output,
-    )?;
+    served.answer(Submission::Event {
+        caller: CONNECTION,
+        moment,
+        salt,
+        event,
+    })?;
     if served.wants_load() {
         load_again(served, root, tree, clock, output)?;
     }
     Ok(())
 }
 
-/// Hands in the end of the connection.
-pub fn depart<C: Clock, S: Salt, O: Sink>(
+/// Hands in the end of the connection. All that it was sent before is written.
+pub fn depart<C: Clock, S: Salt>(
     served: &mut Served,
     clock: &mut C,
     salt: &mut S,
-    output: &mut O,
 ) -> Result<(), Stopped>
     requires counted { served.old.sent ≡ sent served.old.past CONNECTION }
-    ensures departs { IsDeparting (standing served.old 0 (supply (C.left clock.old) (C.gave clock.old)) (supply (S.left salt.old) (S.gave salt.old)) (O.held output.old)) (standing served.new 0 (supply (C.left clock.new) (C.gave clock.new)) (supply (S.left salt.new) (S.gave salt.new)) (O.held output.new)) result }
+    ensures departs { IsDeparting served.old (supply (C.left clock.old) (C.gave clock.old)) (supply (S.left salt.old) (S.gave salt.old)) served.new (supply (C.left clock.new) (C.gave clock.new)) (supply (S.left salt.new) (S.gave salt.new)) result }
     ensures legal { Legal served.new.past }
-    ensures faults { WriteFaults O.held O.faults output.old output.new result }
 {
     let moment = clock.now();
     let salt = salt.word();
-    served.answer(
-        Submission::Event {
-            caller: CONNECTION,
-            moment,
-            salt,
-            event: Event::Depart,
-        },
-        output,
-    )
+    served.answer(Submission::Event {
+        caller: CONNECTION,
+        moment,
+        salt,
+        event: Event::Depart,
+    })
 }

@@ -1,78 +1,72 @@
-// Writes the messages of outputs.
-ghost use Rattle.std.specs.Prelude.{◌≡◌, ◌+◌, ◌<◌, ◌∷◌, [], IfOk};
+// Keeps the messages of outputs, so that they are written.
+ghost use Rattle.std.specs.Prelude.{◌≡◌, ◌+◌, ◌++◌, ◌<◌, ◌∷◌, [], IfOk, OnOk};
 ghost use Rattle.authority_model.specs.Items.{count_to};
 ghost use Rattle.authority_laws.specs.Batches.{IsSendable};
 ghost use Rattle.authority_messages.specs.Texts.{message_text};
-ghost use Rattle.pipe_run.specs.Answered.{Writes, WriteFaults};
 ghost use Rattle.pipe_run.specs.Bytes.{AreSendableTo, output_bytes};
 
-use crate::ends::Stopped;
+use crate::outbox::Outbox;
 use crate::served::CONNECTION;
 use authority_messages::message_of;
 use authority_model::{History, Output};
-use pk_outside::{Sink, write_all};
 use pk_types::NoMemory;
 use std::alloc::Global;
 
-/// Writes the message of one output.
-fn write_message<O: Sink>(
+/// Keeps the message of one output.
+fn put_message(
     alloc: Global,
     history: &History,
     output: &Output,
     serial: u32,
-    sink: &mut O,
-) -> Result<(), Stopped>
+    outbox: &mut Outbox,
+) -> Result<(), NoMemory>
     requires sendable { IsSendable output.now.message }
     requires serial { 0 < serial }
-    ensures writes { Writes (O.held sink.old) (O.held sink.new) (message_text history.now.loads serial output.now) result }
-    ensures faults { WriteFaults O.held O.faults sink.old sink.new result }
+    ensures put { OnOk result (outbox.new ≡ outbox.old ++ message_text history.now.loads serial output.now) }
 {
     let bytes = message_of(alloc, output, history, serial)?;
-    write_all(sink, bytes.as_slice())?;
-    Ok(())
+    outbox.put(bytes.as_slice())
 }
 
-/// Writes the message of an output, if it goes to the connection, which was sent so many before.
+/// Keeps the message of an output, if it goes to the connection, which was sent so many before.
 /// The answer is how many it was sent now.
-fn write_own<O: Sink>(
+fn put_own(
     alloc: Global,
     history: &History,
     output: &Output,
     sent: u32,
-    sink: &mut O,
-) -> Result<u32, Stopped>
+    outbox: &mut Outbox,
+) -> Result<u32, NoMemory>
     requires sendable { AreSendableTo CONNECTION (output.now ∷ []) }
-    ensures writes { Writes (O.held sink.old) (O.held sink.new) (output_bytes history.now.loads CONNECTION sent (output.now ∷ [])) result }
+    ensures put { OnOk result (outbox.new ≡ outbox.old ++ output_bytes history.now.loads CONNECTION sent (output.now ∷ [])) }
     ensures count { IfOk result (λ n. n ≡ sent + count_to CONNECTION (output.now ∷ [])) }
-    ensures faults { WriteFaults O.held O.faults sink.old sink.new result }
 {
     if output.to != CONNECTION {
         return Ok(sent);
     }
     let Some(serial) = sent.checked_add(1) else {
-        return Err(Stopped::NoMemory);
+        return Err(NoMemory);
     };
-    write_message(alloc, history, output, serial, sink)?;
+    put_message(alloc, history, output, serial, outbox)?;
     Ok(serial)
 }
 
-/// Writes the messages of those of these outputs that go to the connection, which was sent so many
+/// Keeps the messages of those of these outputs that go to the connection, which was sent so many
 /// before. The answer is how many it was sent now.
-pub fn write_outputs<O: Sink>(
+pub fn put_outputs(
     alloc: Global,
     history: &History,
     outputs: &[Output],
     before: u32,
-    sink: &mut O,
-) -> Result<u32, Stopped>
+    outbox: &mut Outbox,
+) -> Result<u32, NoMemory>
     requires sendable { AreSendableTo CONNECTION outputs.now }
-    ensures writes { Writes (O.held sink.old) (O.held sink.new) (output_bytes history.now.loads CONNECTION before outputs.now) result }
+    ensures put { OnOk result (outbox.new ≡ outbox.old ++ output_bytes history.now.loads CONNECTION before outputs.now) }
     ensures count { IfOk result (λ n. n ≡ before + count_to CONNECTION outputs.now) }
-    ensures faults { WriteFaults O.held O.faults sink.old sink.new result }
 {
     let mut sent = before;
     for output in outputs {
-        sent = write_own(alloc, history, output, sent, sink)?;
+        sent = put_own(alloc, history, output, sent, outbox)?;
     }
     Ok(sent)
 }

@@ -32,7 +32,8 @@ fn status_of(end: PipeEnd) -> Status
 
 /// Serves one connection of this user over the input and the output: the messages of the input are
 /// answered one after another, and what the connection is sent is written, until the input ends or
-/// the first fault comes. What was answered before a fault stays written.
+/// the first fault comes. What was answered before a fault is written; only where memory is refused
+/// the last of it may lack.
 ///
 /// The first load is what the tree gives below the root. Where a message asks for a load, the root is
 /// loaded again. All that is handed in takes a reading of the clock, and the connection's own a

@@ -3,10 +3,14 @@ use Rattle.std.proofs.Common.{◌∙◌, sym, refl, subst, ap, take, ◌++◌, �
 use Rattle.pk_outside.proofs.Written.{Gave-none}
 use Rattle.dbus_values.specs.Next.{next_of, seen}
 use Rattle.dbus_values.specs.Streams.{IsForm}
-use Rattle.pipe_run.proofs.Exits.{bad_bytes, halted, no_memory, read_fault}
+use Rattle.authority_model.specs.Items.{sent}
+use Rattle.pipe_run.specs.declared.served.TheConstants.{CONNECTION}
+use Rattle.pipe_run.specs.Handed.{awaits_message}
+use Rattle.pipe_run.proofs.Exits.{bad_bytes, halted, no_memory, read_fault, write_fault}
 use Rattle.pipe_run.proofs.Following.{next_message}
-use Rattle.pipe_run.proofs.Serving.{answered_on, more_read, still_partial, stopped_writes}
+use Rattle.pipe_run.proofs.Serving.{answered_on, more_read, out_on, still_partial, stopped_writes}
 use Rattle.pipe_run.proofs.Written.{fails_later}
+use Rattle.pipe_run.proofs.running.serve.Goals.{in-Ok-write_out, in-Err-write_out}
 use Rattle.pipe_run.proofs.running.serve.Goals as goal
 
 pub returns-in-Err-clause-run : goal.returns-in-Err-clause-run
@@ -36,25 +40,36 @@ returns-in-Err-take_message-clause-write g c = rw c.end.ensures.end (stopped_wri
 
 pub returns-in-Bad-clause-run : goal.returns-in-Bad-clause-run
 returns-in-Bad-clause-run g c s told root st =
-    bad_bytes s _ _ _ c.messages.buffer _ c.in-Bad.kind c.in-Bad.at (c.messages.invariant.running s told root st) c.messages.invariant.waits
-    (ap next_of (sym c.bytes.ensures.bytes) ∙ sym c.in-Bad.ensures.exact)
+    let r = c.messages.invariant.running s told root st in
+    elim c.match-write_out.branch [
+      | in-Ok-write_out w ↦ rw w.result-is
+          (bad_bytes s _ _ _ c.messages.buffer _ c.in-Bad.kind c.in-Bad.at (out_on s _ _ _ _ _ _ _ _ _ _ w.in-Ok-write_out.ensures.written r) (ap awaits_message w.in-Ok-write_out.ensures.written.past ∙ c.messages.invariant.waits) w.in-Ok-write_out.ensures.all
+          (ap next_of (sym c.bytes.ensures.bytes) ∙ sym c.in-Bad.ensures.exact))
+      | in-Err-write_out w ↦ let now = out_on s _ _ _ _ _ _ _ _ _ _ w.in-Err-write_out.ensures.written r in rw (w.result-is, w.end-in-Err-write_out.ensures.end)
+          (write_fault s _ now.messages now.read c.messages.buffer _ _ _ w.in-Err-write_out.stopped w.in-Err-write_out.ensures.refused now.stage now.follow now.gave)
+    ]
+
+pub returns-in-Err-write_out-2-clause-run : goal.returns-in-Err-write_out-2-clause-run
+returns-in-Err-write_out-2-clause-run g c s told root st =
+    let r = out_on s _ _ _ _ _ _ _ _ _ _ c.in-Err-write_out-2.ensures.written (c.messages.invariant.running s told root st) in
+    rw c.end-in-Err-write_out-2.ensures.end (write_fault s _ r.messages r.read c.messages.buffer _ _ _ c.in-Err-write_out-2.stopped c.in-Err-write_out-2.ensures.refused r.stage r.follow r.gave)
 
 pub messages-preserved : goal.messages-preserved
 messages-preserved g c =
     let got = c.in-There.ensures.fills in
     record {
-      running = λ s told root st. more_read s _ _ _ _ c.messages.buffer c.fill.new.self got.0 (c.messages.invariant.running s told root st) got.1 got.2.0;
-      counted = c.messages.invariant.counted;
-      waits = c.messages.invariant.waits;
+      running = λ s told root st. more_read s _ _ _ _ c.messages.buffer c.fill.new.self got.0 (out_on s _ _ _ _ _ _ _ _ _ _ c.in_default.ensures.written (c.messages.invariant.running s told root st)) got.1 got.2.0;
+      counted = c.in_default.ensures.written.sent ∙ c.messages.invariant.counted ∙ ap (λ p. sent p CONNECTION) (sym c.in_default.ensures.written.past);
+      waits = ap awaits_message c.in_default.ensures.written.past ∙ c.messages.invariant.waits;
       told = c.messages.invariant.told;
       read = c.in-There.ensures.faults ∙ c.messages.invariant.read;
-      wrote = c.messages.invariant.wrote;
+      wrote = c.in_default.ensures.faults ∙ c.messages.invariant.wrote;
     }
 
 pub returns-in-End-clause-run : goal.returns-in-End-clause-run
 returns-in-End-clause-run g c s told root st =
     let got = c.in-End.ensures.fills in
-    c.end_of_input.ensures.run s _ _ _ c.fill.new.self _ (more_read s _ _ _ _ c.messages.buffer c.fill.new.self got.0 (c.messages.invariant.running s told root st) got.1 got.2.0)
+    c.end_of_input.ensures.run s _ _ _ c.fill.new.self _ (more_read s _ _ _ _ c.messages.buffer c.fill.new.self got.0 (out_on s _ _ _ _ _ _ _ _ _ _ c.in_default.ensures.written (c.messages.invariant.running s told root st)) got.1 got.2.0)
     (still_partial c.bytes-in-Partial.result.now c.messages.buffer c.fill.new.self got.0 c.awaited-wanted.result c.bytes-in-Partial.ensures.bytes
     (c.in-Partial.ensures.exact ∙ ap next_of (c.bytes.ensures.bytes ∙ sym c.bytes-in-Partial.ensures.bytes)) c.awaited-wanted.ensures.exact got.2.0 got.2.1)
     got.2.2 (ap length c.bytes-rest.ensures.bytes)
@@ -62,7 +77,8 @@ returns-in-End-clause-run g c s told root st =
 pub returns-in-ReadFault-clause-run : goal.returns-in-ReadFault-clause-run
 returns-in-ReadFault-clause-run g c s told root st =
     let got = c.in-ReadFault.ensures.fills in
-    read_fault s _ _ _ c.fill.new.self _ (more_read s _ _ _ _ c.messages.buffer c.fill.new.self got.0 (c.messages.invariant.running s told root st) got.1 got.2.0) c.messages.invariant.waits
+    read_fault s _ _ _ c.fill.new.self _ (more_read s _ _ _ _ c.messages.buffer c.fill.new.self got.0 (out_on s _ _ _ _ _ _ _ _ _ _ c.in_default.ensures.written (c.messages.invariant.running s told root st)) got.1 got.2.0)
+    (ap awaits_message c.in_default.ensures.written.past ∙ c.messages.invariant.waits) c.in_default.ensures.all
     (still_partial c.bytes-in-Partial.result.now c.messages.buffer c.fill.new.self got.0 c.awaited-wanted.result c.bytes-in-Partial.ensures.bytes
     (c.in-Partial.ensures.exact ∙ ap next_of (c.bytes.ensures.bytes ∙ sym c.bytes-in-Partial.ensures.bytes)) c.awaited-wanted.ensures.exact got.2.0 got.2.1)
 
@@ -71,7 +87,7 @@ returns-in-ReadFault-clause-read g c = fails_later g.I.Source.left g.I.Source.fa
 
 pub returns-in-NoMemory-clause-run : goal.returns-in-NoMemory-clause-run
 returns-in-NoMemory-clause-run g c s told root st =
-    let r = c.messages.invariant.running s told root st in
+    let r = out_on s _ _ _ _ _ _ _ _ _ _ c.in_default.ensures.written (c.messages.invariant.running s told root st) in
     let got = c.in-NoMemory.ensures.fills in
     let more = more_read s _ _ _ _ c.messages.buffer _ got.0 r got.1 refl in
     no_memory s _ more.messages more.read _ _ _ _ more.stage more.follow more.gave

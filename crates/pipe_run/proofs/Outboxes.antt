@@ -1,0 +1,15 @@
+-- What was written of an outbox, and what is left of it.
+use Rattle.std.proofs.Common.{◌≡◌, ◌+◌, ◌≤◌, ℕ, List, Option, take, drop, length, ◌∙◌, ap, subst, drop-drop, length-drop, arith}
+use Rattle.pk_outside.specs.Streams.{Got, GotUpTo}
+use Rattle.pk_outside.proofs.Written.{GotUpTo-more}
+
+-- more of the rest was written
+pub wrote_on : (a b c : Option (List ℕ)) (bytes items rest : List ℕ) (start n : ℕ) → rest ≡ drop start items → GotUpTo a b bytes (drop start items) → Got b c (take n rest) → GotUpTo a c bytes (drop (start + n) items)
+wrote_on a b c bytes items rest start n is before wrote =
+    subst (λ (r : List ℕ). GotUpTo a c bytes r) (drop-drop n start items) (GotUpTo-more a b c bytes (drop start items) n before (subst (λ (r : List ℕ). Got b c (take n r)) is wrote))
+
+-- no more than there was
+pub still_within : (items rest : List ℕ) (start n : ℕ) → rest ≡ drop start items → start ≤ length items → n ≤ length rest → start + n ≤ length items
+still_within items rest start n is within few =
+    let left = ap length is ∙ length-drop start items in
+    omega (arith, within, few, left)
