@@ -357,6 +357,47 @@ fn faults_of_the_streams_end_the_run(rt: HostRuntime) -> Result<(), Fail> {
     Ok(())
 }
 
+/// Two calls, which come in pieces of this size, and the two answers, where the second write fails.
+fn two_calls_difference<R: Threads + Wait + Sync>(
+    rt: &R,
+    alloc: Global,
+    read_piece: usize,
+    status: &str,
+    code: u8,
+    answers: usize,
+) -> Result<&'static str, NoMemory> {
+    let mut input = LITTLE.to_vec(alloc)?;
+    input.extend_from_slice(&LITTLE)?;
+    let mut written = ANSWER.to_vec(alloc)?;
+    written.extend_from_slice(&with_byte(alloc, &ANSWER, 8, 2)?)?;
+    written.truncate(answers.saturating_mul(ANSWER.len()));
+    let plan = IoPlan {
+        write_fault: 2,
+        ..pieces(read_piece)
+    };
+    let wanted = Wanted {
+        status,
+        code,
+        written: &written,
+    };
+    pipe_difference(rt, alloc, &words("1000"), &input, plan, wanted)
+}
+
+#[test]
+fn answers_go_before_more_is_read(rt: HostRuntime) -> Result<(), Fail> {
+    let piece = LITTLE.len();
+    let differs = two_calls_difference(&rt, rt.alloc(), piece, "WriteFault", 4, 1)?;
+    assert_eq!(rt; differs, "");
+    Ok(())
+}
+
+#[test]
+fn answers_to_one_read_go_with_one_write(rt: HostRuntime) -> Result<(), Fail> {
+    let differs = two_calls_difference(&rt, rt.alloc(), 4096, "Done", 0, 2)?;
+    assert_eq!(rt; differs, "");
+    Ok(())
+}
+
 #[test]
 fn refused_root_writes_nothing(rt: HostRuntime) -> Result<(), Fail> {
     let alloc = rt.alloc();
