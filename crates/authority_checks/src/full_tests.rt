@@ -42,32 +42,32 @@ fn is_refused(authority: &mut Authority, uid: u32, entries: u64, bytes: u64) -> 
     refuses(&stepped, uid, entries, bytes)
 }
 
-/// Whether this many connections are entered.
+/// Whether this many connections are entered, each into a journal that says that it is not full.
 fn all_connect(authority: &mut Authority, count: u32) -> bool {
     for caller in 0..count {
-        if step(authority, caller + 1, 0, Event::Connect { uid: 1000 })
-            .ok()
-            .is_none()
-        {
+        let is_full = authority.is_full();
+        let stepped = step(authority, caller + 1, 0, Event::Connect { uid: 1000 });
+        if is_full || stepped.is_err() {
             return false;
         }
     }
     true
 }
 
-/// Whether this many connections are entered, the next one is refused with these numbers, and the
-/// journal has this many entries.
-fn fills(authority: &mut Authority, row: &Row) -> [bool; 3] {
+/// Whether this many connections are entered, the journal says then that it is full, the next one is
+/// refused with these numbers, and the journal has this many entries.
+fn fills(authority: &mut Authority, row: &Row) -> [bool; 4] {
     let (_, _, count, entries, bytes) = *row;
     [
         all_connect(authority, count),
+        authority.is_full(),
         is_refused(authority, 7, entries, bytes),
         authority.history().entries.len() as u64 == entries,
     ]
 }
 
 /// The same of an authority that starts with the limits of the row.
-fn fills_from_start(alloc: Global, row: &Row) -> Result<[bool; 3], NoMemory> {
+fn fills_from_start(alloc: Global, row: &Row) -> Result<[bool; 4], NoMemory> {
     let limits = Limits {
         entries: row.0.min(MAX_ENTRIES),
         bytes: row.1.min(MAX_BYTES),
@@ -81,7 +81,7 @@ fn a_full_journal_refuses_an_event(rt: HostRuntime) -> Result<(), Fail> {
     for row in ROWS {
         assert_eq!(rt;
             fills_from_start(rt.alloc(), &row)?,
-            [true; 3],
+            [true; 4],
             "{} {}",
             row.0,
             row.1
