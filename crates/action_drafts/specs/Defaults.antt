@@ -1,34 +1,17 @@
 -- The element `defaults`: a value for each category.
-use Rattle.std.specs.Prelude.{ℕ, ◌==◌, ◌&&◌, ◌||◌, Bool, false, if◌then◌else◌, List, [], ◌∷◌, length, Option, Some, None, is_some, codes, bytes_eq, Result, Ok}
+use Rattle.std.specs.Prelude.{ℕ, false, if◌then◌else◌, List, length, Option, Some, None, is_some, codes, bytes_eq, Result, Ok}
 use Rattle.xml_pieces.specs.declared.fault.Fault.{Fault}
 use Rattle.xml_pieces.specs.declared.fault.XmlFaultKind.TheVariants as kind
 use Rattle.xml_pieces.specs.Reading.{◌>>=◌, fault_at, Step, Done, steps}
-use Rattle.xml_pieces.specs.Bytes.{name, skip}
 use Rattle.xml_pieces.specs.Texts.{Tag, tag, text}
 use Rattle.xml_pieces.specs.Children.{Next, Child, End, next}
 use Rattle.pk_types.specs.Values.{implicit_of_word}
+use Rattle.keyfile_text.specs.Bytes.{trim}
 use Rattle.pk_types.specs.declared.values.Implicit.{Implicit}
 use Rattle.pk_types.specs.declared.values.Category.{Category}
 use Rattle.pk_types.specs.declared.values.Category.TheVariants as category
 use Rattle.action_drafts.specs.declared.draft.Defaults.{Defaults}
 use Rattle.action_drafts.specs.Elements.{goes_on}
-
--- a text without the spaces, tabs and LFs at both ends
-abbrev pub is_blank : ℕ → Bool
-is_blank b = b == 32 || b == 9 || b == 10
-
-abbrev pub is_empty : List ℕ → Bool
-is_empty bytes = length bytes == 0
-
-abbrev pub trim_front : List ℕ → List ℕ
-trim_front bytes = skip is_blank bytes
-
-abbrev pub trim_back : List ℕ → List ℕ
-trim_back [] = []
-trim_back (b ∷ bytes) = if is_blank b && is_empty (trim_back bytes) then [] else b ∷ trim_back bytes
-
-unfoldable pub trim : List ℕ → List ℕ
-trim bytes = trim_back (trim_front bytes)
 
 -- the defaults
 abbrev pub default_part : List ℕ → Option Category

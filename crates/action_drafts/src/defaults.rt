@@ -1,11 +1,13 @@
 // The element `defaults` and its children.
 ghost use Rattle.std.specs.Prelude.{◌≡◌, is_some, length};
 ghost use Rattle.pk_types.specs.Values.{implicit_of_word};
+ghost use Rattle.keyfile_text.specs.Bytes.{trim};
 ghost use Rattle.xml_pieces.specs.Reading.{Gives, steps};
 ghost use Rattle.xml_pieces.specs.Views.{tag_of, walk_on};
-ghost use Rattle.action_drafts.specs.Defaults.{default_part, default_of, with_default, default_element, word_of, is_blank, trim_front, trim_back, trim, no_defaults, defaults_step, default_elements, defaults, defaults_element};
+ghost use Rattle.action_drafts.specs.Defaults.{default_part, default_of, with_default, default_element, word_of, no_defaults, defaults_step, default_elements, defaults, defaults_element};
 
 use crate::draft::{Defaults, Element};
+use keyfile_text::trimmed;
 use pk_types::{Category, Implicit};
 use std::alloc::Global;
 use xml_pieces::{
@@ -61,44 +63,11 @@ impl Defaults {
     }
 }
 
-fn is_blank(b: u8) -> bool
-    ensures class { result ≡ is_blank b }
-{
-    b == b' ' || b == b'\t' || b == b'\n'
-}
-
-fn trim_front(bytes: &[u8]) -> &[u8]
-    ensures trimmed { result.now ≡ trim_front bytes.now }
-{
-    let mut rest = bytes;
-    while let Some((b, behind)) = rest.split_first() {
-        if !is_blank(*b) {
-            return rest;
-        }
-        rest = behind;
-    }
-    rest
-}
-
-fn trim_back(bytes: &[u8]) -> &[u8]
-    ensures trimmed { result.now ≡ trim_back bytes.now }
-{
-    let mut rest = bytes;
-    while let Some((last, before)) = rest.split_last() {
-        if !is_blank(*last) {
-            return rest;
-        }
-        rest = before;
-    }
-    rest
-}
-
 /// The value of a default's text.
-#[tactic(auto, unfolding(crate::specs::Defaults::trim))]
 fn word(place: &[u8], text: &[u8]) -> Result<Implicit, Stop>
     ensures exact { Gives (λ x. x) result (word_of place.now (implicit_of_word (trim text.now))) }
 {
-    match Implicit::read(trim_back(trim_front(text))) {
+    match Implicit::read(trimmed(text)) {
         Some(value) => Ok(value),
         None => Err(fault_at(XmlFaultKind::DefaultWord, place)),
     }

@@ -15,11 +15,12 @@ use Rattle.xml_pieces.specs.declared.fault.XmlFaultKind.TheVariants as kind
 use Rattle.action_drafts.specs.declared.draft.FileDraft.{FileDraft}
 use Rattle.action_drafts.specs.Documents.{document}
 use Rattle.action_drafts.specs.Finished.{all_finished}
-use Rattle.action_file_laws.specs.DocumentForm.{document_bytes}
-use Rattle.action_file_laws.proofs.DocumentAgain.{document_again, document_unmarked}
-use Rattle.action_file_laws.proofs.DocumentFound.{document_found}
+use Rattle.action_xml.specs.DocumentForm.{document_bytes}
+use Rattle.action_xml.proofs.DocumentAgain.{document_again, document_unmarked}
+use Rattle.action_xml.proofs.DocumentFound.{document_found}
 use Rattle.action_xml.specs.declared.fault.XmlFault.{XmlFault}
-use Rattle.action_xml.specs.Files.{without_mark, placed, actions_unless, max_file, actions_of, IsFirstFault}
+use Rattle.action_xml.specs.declared.reading.TheConstants.{MAX_ACTION_FILE}
+use Rattle.action_xml.specs.Files.{without_mark, placed, actions_unless, actions_of, IsFirstFault}
 use Rattle.action_xml.specs.ActionFiles.{mark_bytes, IsActionFile}
 use Rattle.action_xml.proofs.Clean.{no_bad}
 
@@ -44,7 +45,7 @@ same_ok : {A E : Type 0} (x y : A) → (let a : Result A E = Ok x in a) ≡ Ok y
 same_ok x y e = cc
 
 -- what is read as actions is an action file that says them
-placed_found : (bytes : List ℕ) (actions : List Action) (size : length bytes ≤ max_file) (clean : IsClean bytes) (r : Result FileDraft Fault)
+placed_found : (bytes : List ℕ) (actions : List Action) (size : length bytes ≤ MAX_ACTION_FILE) (clean : IsClean bytes) (r : Result FileDraft Fault)
     → document (without_mark bytes) ≡ r → placed (length bytes) r ≡ Ok actions → IsActionFile bytes actions
 placed_found bytes actions size clean (Ok f) is e =
     let m = mark_found bytes in
@@ -62,15 +63,15 @@ placed_found bytes actions size clean (Ok f) is e =
 placed_found bytes actions size clean (Err fault) is e = absurd cc
 
 pub file_found : (bytes : List ℕ) (actions : List Action) → actions_of bytes ≡ Ok actions → IsActionFile bytes actions
-file_found bytes actions e = sized (nat_lt max_file (length bytes)) refl e
+file_found bytes actions e = sized (nat_lt MAX_ACTION_FILE (length bytes)) refl e
   where
-    clean : length bytes ≤ max_file → (o : Option ℕ) → text_bad bytes ≡ o → actions_unless o bytes ≡ Ok actions → IsActionFile bytes actions
+    clean : length bytes ≤ MAX_ACTION_FILE → (o : Option ℕ) → text_bad bytes ≡ o → actions_unless o bytes ≡ Ok actions → IsActionFile bytes actions
     clean size (Some at) is e = absurd cc
     clean size None is e = placed_found bytes actions size (clean_of_bad bytes is) (document (without_mark bytes)) refl e
 
-    sized : (t : Bool) → nat_lt max_file (length bytes) ≡ t → (if t then Err (record { kind = kind.TooLong; at = 0 }) else actions_unless (text_bad bytes) bytes) ≡ Ok actions → IsActionFile bytes actions
+    sized : (t : Bool) → nat_lt MAX_ACTION_FILE (length bytes) ≡ t → (if t then Err (record { kind = kind.TooLong; at = 0 }) else actions_unless (text_bad bytes) bytes) ≡ Ok actions → IsActionFile bytes actions
     sized true is e = absurd cc
-    sized false is e = let size : length bytes ≤ max_file = grind (arith, nat_tests) in clean size (text_bad bytes) refl e
+    sized false is e = let size : length bytes ≤ MAX_ACTION_FILE = grind (arith, nat_tests) in clean size (text_bad bytes) refl e
 
 -- an action file is read as the actions that it says
 pub file_again : (bytes : List ℕ) (actions : List Action) → IsActionFile bytes actions → actions_of bytes ≡ Ok actions
@@ -78,13 +79,13 @@ file_again bytes actions file =
     let d : List ℕ = document_bytes file.document in
     let unmarked : without_mark bytes ≡ d = ap without_mark file.bytes_are ∙ mark_again file.has_mark d (document_unmarked file.document file.says file.is_document) in
     let read : document (without_mark bytes) ≡ Ok file.says = ap document unmarked ∙ document_again file.document file.says file.is_document in
-    let fits : nat_lt max_file (length bytes) ≡ false = fit (length bytes) file.size in
+    let fits : nat_lt MAX_ACTION_FILE (length bytes) ≡ false = fit (length bytes) file.size in
     ap (λ t. if t then Err (record { kind = kind.TooLong; at = 0 }) else actions_unless (text_bad bytes) bytes) fits
     ∙ ap (λ o. actions_unless o bytes) (no_bad bytes file.clean)
     ∙ ap (placed (length bytes)) read
     ∙ ap (λ a. Ok a) (sym file.actions_are)
   where
-    fit : (n : ℕ) → n ≤ max_file → nat_lt max_file n ≡ false
+    fit : (n : ℕ) → n ≤ MAX_ACTION_FILE → nat_lt MAX_ACTION_FILE n ≡ false
     fit n le = grind (arith, nat_tests)
 
 -- so no fault but want of memory is told of an action file

@@ -9,6 +9,7 @@ use Rattle.xml_pieces.specs.declared.fault.XmlFaultKind.{XmlFaultKind}
 use Rattle.xml_pieces.specs.declared.fault.XmlFaultKind.TheVariants as kind
 use Rattle.action_drafts.specs.declared.draft.FileDraft.{FileDraft}
 use Rattle.action_xml.specs.declared.file.ActionFile.{ActionFile}
+use Rattle.action_xml.specs.declared.reading.TheConstants.{MAX_ACTION_FILE}
 use Rattle.action_drafts.specs.Documents.{document}
 use Rattle.action_drafts.specs.Finished.{all_finished}
 
@@ -25,14 +26,10 @@ abbrev pub actions_unless : Option ℕ → List ℕ → Result (List Action) Xml
 actions_unless (Some at) bytes = Err (record { kind = kind.NotUtf8; at = at })
 actions_unless None bytes = placed (length bytes) (document (without_mark bytes))
 
--- the greatest number of bytes of an action file
-abbrev pub max_file : ℕ
-max_file = 4194304
-
--- the actions of a file of at most 4,194,304 bytes that is UTF-8 without byte 0, or its first fault
+-- the actions of a file of at most 4 MiB that is UTF-8 without byte 0, or its first fault
 abbrev pub actions_of : List ℕ → Result (List Action) XmlFault
 actions_of bytes =
-    if nat_lt max_file (length bytes) then Err (record { kind = kind.TooLong; at = 0 })
+    if nat_lt MAX_ACTION_FILE (length bytes) then Err (record { kind = kind.TooLong; at = 0 })
     else actions_unless (text_bad bytes) bytes
 
 -- the fault is the first one, and want of memory is free

@@ -1,2 +1,12 @@
+pub mod TextForm
+pub mod TagForm
+pub mod TextElementForm
+pub mod GapForm
+pub mod RowForm
+pub mod DefaultsForm
+pub mod ActionForm
+pub mod RootForm
+pub mod PrologForm
+pub mod DocumentForm
 pub mod Files
 pub mod ActionFiles

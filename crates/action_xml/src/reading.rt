@@ -15,8 +15,8 @@ use pk_types::bad_byte;
 use std::alloc::Global;
 use xml_pieces::{Stop, XmlFaultKind, behind};
 
-/// The greatest number of bytes of an action file.
-const MAX_FILE: usize = 4_194_304;
+/// The greatest number of bytes of an action file: 4 MiB.
+pub const MAX_ACTION_FILE: usize = 4_194_304;
 
 /// The bytes without a byte order mark.
 fn without_mark(bytes: &[u8]) -> &[u8]
@@ -51,7 +51,7 @@ fn placed(why: Stop, size: usize) -> XmlFault
 fn actions(alloc: Global, bytes: &[u8]) -> Result<ActionList, XmlFault>
     ensures read { AreRead bytes.now result }
 {
-    if bytes.len() > MAX_FILE {
+    if bytes.len() > MAX_ACTION_FILE {
         return Err(XmlFault {
             kind: XmlFaultKind::TooLong,
             at: 0,

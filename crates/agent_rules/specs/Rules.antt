@@ -2,11 +2,11 @@
 use Rattle.std.specs.Prelude.{◌≡◌, ◌||◌, nat_lt, List, [], ◌∷◌, length, find, Option, None, Some, option_and_then, is_some, Result, Ok, Err, codes, if◌then◌else◌}
 use Rattle.std.specs.Option.{option_map, option_map_or}
 use Rattle.std.specs.Str.{bytes_eq}
-use Rattle.pk_types.specs.Decimals.{is_empty}
+use Rattle.pk_types.specs.Decimals.{is_empty, number_of}
 use Rattle.pk_types.specs.Text.{text_fault_of}
-use Rattle.byte_pieces.specs.Pieces.{pieces_of, lines_of}
+use Rattle.pk_types.specs.Pieces.{pieces_of, lines_of}
 use Rattle.glob_match.specs.Glob.{matches}
-use Rattle.authority_model.specs.Words.{Bytes, after_front, number_of}
+use Rattle.authority_model.specs.Words.{Bytes, after_front}
 use Rattle.agent_rules.specs.declared.line.Handling.{Handling}
 use Rattle.agent_rules.specs.declared.line.Handling.TheVariants as handling
 use Rattle.agent_rules.specs.declared.line.Rule.{Rule}

@@ -7,8 +7,6 @@
 
 mod line;
 mod rules;
-#[cfg(test)]
-mod tests;
 
 pub use line::{Handling, Rule};
 pub use rules::{MAX_RULE_FILE, MAX_RULES, RuleFault, Rules};

@@ -3,8 +3,7 @@ ghost use Rattle.std.specs.Prelude.{◌≡◌, map};
 ghost use Rattle.agent_rules.specs.Rules.{Reads, authenticated_in, handling_in, glob_in, rule_of_words, rule_in};
 
 use crate::rules::RuleFault;
-use byte_pieces::pieces;
-use pk_types::{Text, TextFault, number_up_to};
+use pk_types::{Text, TextFault, number, pieces};
 use std::alloc::Global;
 
 /// How the agent handles a challenge.
@@ -34,8 +33,8 @@ fn authenticated(word: &[u8]) -> Option<Handling>
     let [b'u', b's', b'e', b'r', b':', digits @ ..] = word else {
         return None;
     };
-    let uid = number_up_to(digits, u64::from(u32::MAX))?;
-    Some(Handling::Authenticate { uid: uid as u32 })
+    let uid = number(digits)?;
+    Some(Handling::Authenticate { uid })
 }
 
 /// What the second word of a line says.

@@ -5,9 +5,8 @@ ghost use Rattle.glob_match.specs.Glob.{matches as globs};
 ghost use Rattle.agent_rules.specs.Rules.{Reads, rules_in_lines};
 
 use crate::line::{Handling, Rule, rule_of};
-use byte_pieces::lines;
 use glob_match::matches;
-use pk_types::{List, NoMemory, Text};
+use pk_types::{List, NoMemory, Text, lines};
 use std::alloc::Global;
 use std::marker::Model;
 

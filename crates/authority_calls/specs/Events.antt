@@ -10,7 +10,8 @@ use Rattle.authority_model.specs.declared.event.Event.TheVariants as event
 use Rattle.authority_model.specs.declared.message.ErrorCause.{ErrorCause}
 use Rattle.authority_model.specs.Words.{Bytes}
 use Rattle.authority_calls.specs.declared.methods.TheConstants.{AUTHORITY_PATH}
-use Rattle.authority_calls.specs.declared.event.TheConstants.{METHOD_CALL, METHOD_RETURN, ERROR, NO_REPLY_EXPECTED}
+use Rattle.dbus_values.specs.declared.codes.TheConstants.{METHOD_CALL, METHOD_RETURN, ERROR}
+use Rattle.authority_calls.specs.declared.event.TheConstants.{NO_REPLY_EXPECTED}
 use Rattle.authority_calls.specs.declared.methods.Method.{Method}
 use Rattle.authority_calls.specs.Methods.{row_of, method_named}
 use Rattle.authority_calls.specs.Arguments.{text_of}

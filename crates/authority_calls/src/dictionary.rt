@@ -7,10 +7,7 @@ ghost use Rattle.authority_calls.specs.Dictionaries.{keyed, open_in, entry, next
 
 use crate::arguments::{behind, bytes, enter, part, variant};
 use crate::fault::ArgumentFault;
-use dbus_values::{Part, Parts};
-
-/// More parts than any message has.
-pub const MOST_PARTS: usize = 4294967296;
+use dbus_values::{MOST_PARTS, Part, Parts};
 
 /// An entry of a dictionary: its key, and the first part of the value in its variant.
 #[derive(Clone, Copy)]

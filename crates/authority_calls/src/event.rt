@@ -12,18 +12,9 @@ use crate::calls::arguments;
 use crate::fault::ArgumentFault;
 use crate::methods::{AUTHORITY_PATH, Method, method_named};
 use authority_model::{Call, ErrorCause, Event};
-use dbus_values::WireMessage;
+use dbus_values::{ERROR, METHOD_CALL, METHOD_RETURN, WireMessage};
 use pk_types::{NoMemory, Text};
 use std::alloc::Global;
-
-/// The message type METHOD_CALL of the D-Bus Specification.
-pub const METHOD_CALL: u8 = 1;
-
-/// The message type METHOD_RETURN.
-pub const METHOD_RETURN: u8 = 2;
-
-/// The message type ERROR.
-pub const ERROR: u8 = 3;
 
 /// The flag NO_REPLY_EXPECTED, which is bit 0.
 pub const NO_REPLY_EXPECTED: u8 = 1;

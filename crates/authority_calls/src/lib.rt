@@ -14,5 +14,5 @@ mod methods;
 pub mod pairs;
 mod subjects;
 
-pub use event::{ERROR, METHOD_CALL, METHOD_RETURN, NO_REPLY_EXPECTED, error_name, event_of};
+pub use event::{NO_REPLY_EXPECTED, error_name, event_of};
 pub use methods::{AUTHORITY, AUTHORITY_PATH, Method, MethodRow, PROFILE, method_named};

@@ -4,9 +4,8 @@ ghost use Rattle.authority_calls.specs.Arguments.{Takes};
 ghost use Rattle.authority_calls.specs.Dictionaries.{pair, next_pair, pairs};
 
 use crate::arguments::{enter, leave, part, text};
-use crate::dictionary::MOST_PARTS;
 use crate::fault::ArgumentFault;
-use dbus_values::{Part, Parts};
+use dbus_values::{MOST_PARTS, Part, Parts};
 use pk_types::{List, Pair, PairList};
 use std::alloc::Global;
 

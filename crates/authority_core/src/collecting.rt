@@ -5,6 +5,7 @@ ghost use Rattle.authority_model.specs.Items.{items_of, sent};
 ghost use Rattle.authority_model.specs.Sent.{batch, collected, sent_to};
 ghost use Rattle.authority_laws.specs.Batches.{load_of, greatest_load};
 ghost use Rattle.journal_state.specs.States.{IsStateOf};
+ghost use Rattle.pk_types.specs.declared.decimals.TheConstants.{MAX_NUMBER};
 
 use crate::copies::copy_of;
 use authority_model::{Answer, History, Loaded, LoadedList, Message, Output, OutputList};
@@ -117,7 +118,7 @@ pub fn batch_of(
     of: u32,
 ) -> Result<Batch, NoMemory>
     requires state { IsStateOf (items_of history.now) state.now }
-    requires few { collected (items_of history.now) caller of + 1 ≤ 4294967295 }
+    requires few { collected (items_of history.now) caller of + 1 ≤ MAX_NUMBER }
     ensures from { IfOk result (λ b. b.from ≡ collected (items_of history.now) caller of + 1) }
     ensures outputs { IfOk result (λ b. b.outputs ≡ batch (items_of history.now) caller of) }
     ensures loads { IfOk result (λ b. b.loads ≡ take (greatest_load b.outputs) history.now.loads) }

@@ -8,6 +8,7 @@ ghost use Rattle.authority_model.specs.Items.{items_of, loaded_of, empty_loaded}
 ghost use Rattle.authority_model.specs.Legal.{last_moment};
 ghost use Rattle.authority_model.specs.Small.{IsShort};
 ghost use Rattle.journal_state.specs.States.{IsStateOf};
+ghost use Rattle.pk_types.specs.declared.decimals.TheConstants.{MAX_NUMBER};
 
 use authority_model::{Entry, EntryList, History, Loaded, LoadedList};
 use journal_state::State;
@@ -100,7 +101,7 @@ pub fn enter_load(
 /// any memory.
 pub fn next_load(loads: &LoadedList, loaded: &Loaded) -> Option<u32>
     ensures number { IfSome result (λ number. number ≡ length loads.now + 1) }
-    ensures fits { IfSome result (λ number. number ≤ 4294967295) }
+    ensures fits { IfSome result (λ number. number ≤ MAX_NUMBER) }
     ensures actions { IfSome result (λ _. IsShort loaded.now.policy.actions) }
     ensures rules { IfSome result (λ _. IsShort loaded.now.policy.entries) }
 {

@@ -12,6 +12,7 @@ use Rattle.authority_model.specs.Given.{Given, event_given}
 use Rattle.authority_model.specs.Items.{paired}
 use Rattle.authority_model.specs.Lists.{Each}
 use Rattle.authority_model.specs.Sent.{sent_to, collected, batch}
+use Rattle.pk_types.specs.declared.decimals.TheConstants.{MAX_NUMBER}
 
 -- the items of a history, from the first to the last
 abbrev pub in_order : History → List Item
@@ -71,6 +72,6 @@ pub record IsBatch (past : List Item) (by c first : ℕ) (sent : List Output) (c
   pub from : first ≡ collected past by c + 1
   pub outputs : sent ≡ batch past by c
   pub loads : copies ≡ take (greatest_load sent) (loads_in past)
-  pub few : first + length sent ≤ 4294967295
+  pub few : first + length sent ≤ MAX_NUMBER
   pub named : greatest_load (sent_to past c) ≤ length (loads_in past)
   pub sendable : c ≢ 0 → AreSendable sent

@@ -19,7 +19,7 @@ use Rattle.authority_model.specs.Reasons.{reason_text}
 use Rattle.authority_model.specs.Words.{Bytes}
 use Rattle.authority_calls.specs.declared.event.TheConstants.{NO_REPLY_EXPECTED}
 use Rattle.authority_calls.specs.declared.methods.TheConstants.{AUTHORITY, AUTHORITY_PATH}
-use Rattle.authority_messages.specs.declared.outgoing.TheConstants.{MAX_MESSAGE}
+use Rattle.dbus_values.specs.declared.codes.TheConstants.{MAX_MESSAGE}
 use Rattle.authority_messages.specs.declared.calls.TheConstants.{AGENT}
 use Rattle.authority_messages.specs.declared.replies.TheConstants.{LIMITS_EXCEEDED, TOO_LONG}
 use Rattle.authority_messages.specs.Values.{string, array, pairs, identity, authorization_result, description, authorization}

@@ -6,8 +6,9 @@ use Rattle.dbus_values.specs.Trees.{Tree, Trees, types_of}
 use Rattle.dbus_values.specs.Form.{Field, Message, IsMessage, message_bytes}
 use Rattle.dbus_values.specs.Written.{list_trees, text_field, number_field, signature_field}
 use Rattle.authority_model.specs.Words.{Bytes}
-use Rattle.authority_calls.specs.declared.event.TheConstants.{METHOD_CALL, METHOD_RETURN, ERROR, NO_REPLY_EXPECTED}
-use Rattle.authority_messages.specs.declared.outgoing.TheConstants.{INVALID, SIGNAL}
+use Rattle.dbus_values.specs.declared.codes.TheConstants.{METHOD_CALL, METHOD_RETURN, ERROR, SIGNAL}
+use Rattle.authority_calls.specs.declared.event.TheConstants.{NO_REPLY_EXPECTED}
+use Rattle.authority_messages.specs.declared.outgoing.TheConstants.{INVALID}
 use Rattle.authority_messages.specs.Values.{string, row}
 
 -- a message without its serial: its type, its flags, its header fields but for SIGNATURE, and the values of its body

@@ -5,18 +5,12 @@ ghost use Rattle.authority_messages.specs.Outgoing.{outgoing, return_to as retur
 ghost use Rattle.authority_messages.specs.Values.{string};
 ghost use Rattle.authority_messages.specs.Built.{Rows};
 
-use authority_calls::{ERROR, METHOD_CALL, METHOD_RETURN, NO_REPLY_EXPECTED};
-use dbus_values::{HeaderOut, ValueList, WireOut};
+use authority_calls::NO_REPLY_EXPECTED;
+use dbus_values::{ERROR, HeaderOut, METHOD_CALL, METHOD_RETURN, SIGNAL, ValueList, WireOut};
 use pk_types::Text;
 
 /// The type of no message (the D-Bus Specification, "Message Format").
 pub const INVALID: u8 = 0;
-
-/// The message type of a signal.
-pub const SIGNAL: u8 = 4;
-
-/// The greatest number of bytes of a message that is sent.
-pub const MAX_MESSAGE: u64 = 16_777_216;
 
 /// A return to the call with this serial.
 pub fn return_to(answered: u32, body: ValueList) -> WireOut

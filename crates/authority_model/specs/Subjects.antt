@@ -4,7 +4,8 @@ use Rattle.pk_types.specs.declared.values.Subject.{Subject}
 use Rattle.authority_model.specs.declared.key.Key.{Key}
 use Rattle.authority_model.specs.declared.process_id.ProcessId.{ProcessId}
 use Rattle.authority_model.specs.declared.world.World.{World}
-use Rattle.authority_model.specs.Words.{Bytes, after_front, number_of}
+use Rattle.pk_types.specs.Decimals.{number_of}
+use Rattle.authority_model.specs.Words.{Bytes, after_front}
 use Rattle.authority_model.specs.Worlds.{process_row, session_row}
 use Rattle.authority_model.specs.Facts.{Facts, facts_of_process, facts_of_session}
 use Rattle.authority_model.specs.Items.{Item, world_of}

@@ -1,7 +1,6 @@
 -- Texts, seen as their bytes.
 use Rattle.std.specs.Prelude.{ℕ, ◌==◌, Bool, true, false, ◌&&◌, ◌||◌, if◌then◌else◌, List, [], ◌∷◌, ◌++◌, Option, Some, None, codes, decimal, nat_lt}
 use Rattle.std.specs.Option.{option_map_or}
-use Rattle.pk_types.specs.Decimals.{decimal_up_to}
 
 -- a text is its bytes
 abbrev pub Bytes : Type 0
@@ -43,10 +42,6 @@ comes_before (a ∷ xs) (b ∷ bs) = nat_lt a b || ((a == b) && comes_before xs 
 abbrev pub least_text : List Bytes → Option Bytes
 least_text [] = None
 least_text (x ∷ xs) = Some (option_map_or (λ y. if comes_before y x then y else x) (least_text xs) x)
-
--- the number of 32 bits that a word of decimal digits names
-abbrev pub number_of : Bytes → Option ℕ
-number_of word = decimal_up_to 4294967295 word
 
 -- the bus name of a connection: `:1.` and its number
 abbrev pub bus_name : ℕ → Bytes

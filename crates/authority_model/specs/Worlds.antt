@@ -8,7 +8,8 @@ use Rattle.authority_model.specs.declared.world.Group.{Group as GroupRow}
 use Rattle.authority_model.specs.declared.world.Session.{Session as SessionRow}
 use Rattle.authority_model.specs.declared.world.Process.{Process as ProcessRow}
 use Rattle.authority_model.specs.Lists.{or_else, any_of}
-use Rattle.authority_model.specs.Words.{Bytes, after_front, number_of}
+use Rattle.pk_types.specs.Decimals.{number_of}
+use Rattle.authority_model.specs.Words.{Bytes, after_front}
 
 -- the process with this pid and start
 abbrev pub process_row : World → ℕ → ℕ → Option ProcessRow

@@ -4,12 +4,12 @@ ghost use Rattle.std.specs.List.{before_first};
 ghost use Rattle.std.specs.Option.{option_copied};
 ghost use Rattle.std.specs.Result.{result_ok, result_err};
 ghost use Rattle.authority_model.specs.Lists.{any_of};
-ghost use Rattle.authority_model.specs.Words.{after_front, number_of};
+ghost use Rattle.authority_model.specs.Words.{after_front};
 ghost use Rattle.authority_model.specs.Worlds.{user_of_word, group_of_word};
 ghost use Rattle.authority_model.specs.Identities.{is_kind};
 
 use crate::World;
-use pk_types::{Identity, Text, number_up_to};
+use pk_types::{Identity, Text, number};
 use thiserror::Error;
 
 /// Why a text names no identity.
@@ -28,16 +28,6 @@ fn behind<'a>(front: &[u8], text: &'a [u8]) -> Option<&'a [u8]>
     ensures behind { option_copied result ≡ after_front front.now text.now }
 {
     text.strip_prefix(front)
-}
-
-/// The number of 32 bits that a word names.
-fn number(word: &[u8]) -> Option<u32>
-    ensures number { result ≡ number_of word.now }
-{
-    match number_up_to(word, 4_294_967_295) {
-        Some(number) => Some(number as u32),
-        None => None,
-    }
 }
 
 /// Whether a text has a colon.

@@ -24,6 +24,7 @@ mod offered;
 mod pending;
 mod policy;
 mod process_id;
+mod reasons;
 mod verdict;
 mod world;
 

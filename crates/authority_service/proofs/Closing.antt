@@ -13,7 +13,7 @@ use Rattle.pk_outside.specs.Links.{LinkBack}
 use Rattle.pk_outside.specs.Stations.{DoorBack, StationTold}
 use Rattle.authority_model.specs.declared.journal.Item.{Item}
 use Rattle.authority_model.specs.declared.journal.Limits.{Limits}
-use Rattle.door_words.specs.declared.door.DoorPath.{DoorPath}
+use Rattle.command_line.specs.declared.door.DoorPath.{DoorPath}
 use Rattle.serve_words.specs.declared.plan.ServePlan.{ServePlan}
 use Rattle.shared_authority.specs.Journals.{Fits, IsJournal}
 use Rattle.shared_authority.specs.Lasting.{fits_lasts}

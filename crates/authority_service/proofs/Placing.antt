@@ -4,7 +4,7 @@ use Rattle.std.specs.Prelude.{All, map, slice_index_or}
 use Rattle.std.proofs.lemmas.List.{map-append}
 use Rattle.std.proofs.lemmas.List.Elements.{All-push}
 use Rattle.pk_outside.specs.Stations.{StationTold, first_list, other_lists}
-use Rattle.door_words.specs.declared.door.DoorPath.{DoorPath}
+use Rattle.command_line.specs.declared.door.DoorPath.{DoorPath}
 use Rattle.authority_service.specs.Places.{no_path, nth_door, first_doors, OpensFirst}
 use Rattle.service_slots.specs.Doors.{DoorMade, OpensDoor}
 

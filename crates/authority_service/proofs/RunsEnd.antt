@@ -19,7 +19,7 @@ use Rattle.service_slots.specs.declared.opening.ShutSlot.{ShutSlot}
 use Rattle.service_slots.specs.Served.{SlotsOf}
 use Rattle.service_slots.specs.Stops.{HasServedAll, StopTells}
 use Rattle.shared_authority.specs.Journals.{IsJournal}
-use Rattle.door_words.specs.declared.door.DoorPath.{DoorPath}
+use Rattle.command_line.specs.declared.door.DoorPath.{DoorPath}
 use Rattle.service_slots.specs.Doors.{DoorMade, DoorsAreDone}
 use Rattle.authority_service.specs.Beginning.{BeginsWith}
 use Rattle.authority_service.specs.Places.{OpensFirst}

@@ -1,7 +1,7 @@
 -- Which doors the slots of a plan have, in their order.
 use Rattle.std.specs.Prelude.{◌≡◌, ◌++◌, ◌/◌, ◌%◌, [], ◌∷◌, ℕ, zero, suc, List, Option, Some, map, slice_index_or}
 use Rattle.pk_outside.specs.Stations.{StationTold, first_list, other_lists}
-use Rattle.door_words.specs.declared.door.DoorPath.{DoorPath}
+use Rattle.command_line.specs.declared.door.DoorPath.{DoorPath}
 use Rattle.service_slots.specs.Doors.{DoorMade}
 
 -- what a station has left to give behind so many doors

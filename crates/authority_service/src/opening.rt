@@ -8,7 +8,7 @@ ghost use Rattle.authority_service.specs.Places.{OpensFirst};
 ghost use Rattle.service_slots.specs.Doors.{made_of};
 ghost use Rattle.service_slots.specs.Served.{SlotOf};
 
-use door_words::DoorPath;
+use command_line::DoorPath;
 use history_lock::{Pass, TableName};
 use pk_outside::{Station, StationRefused};
 use service_slots::{Slot, open_slot};

@@ -9,6 +9,7 @@ ghost use Rattle.authority_service.specs.Running.{LoadsAll, ended_slot};
 ghost use Rattle.authority_service.specs.Shutting.{ShutsAll};
 ghost use Rattle.history_lock.specs.Known.{Known};
 ghost use Rattle.authority_model.specs.declared.journal.Item.{Item};
+ghost use Rattle.pk_outside.specs.Allowing.{IsFree};
 ghost use Rattle.pk_outside.specs.Doors.{DoorTold};
 ghost use Rattle.service_slots.specs.Doors.{made_of, DoorsAreDone};
 ghost use Rattle.service_slots.specs.Served.{SlotOf, SlotsOf};
@@ -86,6 +87,7 @@ where
     requires new { All (λ s. NoneEnded s.lines.items) slots.items }
     requires none { shut.items ≡ [] }
     requires room { vec_len slots ≤ vec_capacity shut }
+    requires free_door { IsFree N.Door.Link.Out.allowed }
     ensures legal { IsJournal (in_order result.authority.history) }
     ensures begins { IsPrefix zero.history (in_order result.authority.history) }
     ensures slots { All (λ s. SlotOf s.pass.history (N.Door.owner s.door) (N.Door.told s.door) (N.Clock.gave s.clock) (N.Salt.gave s.salt) s.lines.items) slots.items

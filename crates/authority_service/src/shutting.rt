@@ -6,6 +6,7 @@ ghost use Rattle.connection_laws.specs.Knowing.{KnowsMore};
 ghost use Rattle.service_slots.specs.Doors.{DoorsAreDone};
 ghost use Rattle.service_slots.specs.Served.{SlotOf, SlotsOf};
 ghost use Rattle.service_slots.specs.Stops.{HasServedAll, IsStopped, StopTells};
+ghost use Rattle.history_lock.specs.declared.machine.TheConstants.{MOST_PASSES};
 
 use history_lock::{Pass, TableName};
 use pk_outside::Station;
@@ -34,7 +35,7 @@ pub fn shut_slots<L: LimitsName, T: TableName, N: Station>(
         → All (λ s. IsStopped L.limits most s.pass (N.Door.told s.door) (N.Door.faults s.door) s.lines.items s.stop) slots.items
         → All (λ s. HasServedAll s.stop) shut.new.items → DoorsAreDone most (N.told station.old) (N.told station.new) }
     ensures knows { KnowsMore control.old control.new }
-    ensures top { control.new.made ≤ 1048576 }
+    ensures top { control.new.made ≤ MOST_PASSES }
     ensures lines { map (λ s. s.lines.items) shut.new.items ≡ map (λ s. s.lines.items) slots.items }
     ensures stopped { map (λ s. s.stop) shut.new.items ≡ map (λ s. s.stop) slots.items }
     ensures later { N.faults station.old ≤ N.faults station.new }

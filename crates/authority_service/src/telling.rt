@@ -1,6 +1,7 @@
 // What a service prints at its end, and how it ends.
 ghost use Rattle.std.specs.Prelude.{◌≡◌, ◌≤◌, ◌+◌, ◌*◌, ◌⊎◌, ℕ, IfOk, IsTrue, None, Some, flat_map, length};
 ghost use Rattle.std.specs.List.{list_any};
+ghost use Rattle.pk_outside.specs.Allowing.{IsFree};
 ghost use Rattle.authority_model.specs.Items.{items_of};
 ghost use Rattle.authority_service.specs.Service.{AreAllLoads, end_of, end_of_stops, has_failed_door, has_no_memory};
 ghost use Rattle.authority_service.specs.Printing.{IsPrinted, WasPrinted, WasUntold};
@@ -128,7 +129,9 @@ impl Ran {
     }
 
     /// Prints the lines, and answers how the service ended.
+    #[tactic(auto, using(pk_outside::proofs::Going::may_go_free))]
     pub fn tell<O: Sink>(&self, alloc: Global, output: &mut O) -> ServiceEnd
+        requires free { IsFree O.allowed }
         ensures told { WasUntold (O.held output.old) (O.held output.new) result
             ⊎ WasPrinted (items_of self.now.authority.history) (flat_map (λ s. s.lines.items) self.now.slots.items) self.now.cause self.now.slots.items (O.held output.old) (O.held output.new) (O.faults output.old) (O.faults output.new) result }
         ensures later { O.faults output.old ≤ O.faults output.new }

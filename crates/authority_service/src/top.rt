@@ -2,6 +2,7 @@
 ghost use Rattle.std.specs.Prelude.{◌≡◌, ◌≢◌, ◌≤◌, [], IfErr, IfOk, IfSome, None, Ok, Option, ℕ, vec_len};
 ghost use mathlib.Core.List.{IsPrefix};
 ghost use Rattle.authority_model.specs.declared.load.Loaded.{Loaded};
+ghost use Rattle.pk_outside.specs.Allowing.{IsFree};
 ghost use Rattle.pk_outside.specs.Trees.{TreeTold};
 ghost use Rattle.policy_load.specs.Loads.{load_of};
 ghost use Rattle.authority_model.specs.Peers.{uid_of};
@@ -77,6 +78,7 @@ where
     requires some { zero.history ≢ [] }
     requires prefix { IsPrefix zero.history control.history }
     requires passes { vec_len passes ≡ slots_of plan.now }
+    requires free_door { IsFree N.Door.Link.Out.allowed }
     ensures ran { IfOk result (λ ran. (first : Loaded) → BeginsWith first zero.history
         → HasRun plan.now first (objects (F.told tree.old) (N.told station.old) (N.told station.new) (N.faults station.old) (N.faults station.new))
         ran.authority.history ran.slots.items ran.cause) }
@@ -128,6 +130,7 @@ where
     requires zero { zero.number ≡ 0 }
     requires fresh { uid_of (past_of zero.history) 0 ≡ None }
     requires some { zero.history ≢ [] }
+    requires free_door { IsFree N.Door.Link.Out.allowed }
     ensures ran { IfOk result (λ ran. (first : Loaded) → BeginsWith first zero.history
         → HasRun plan.now first (objects (F.told tree.old) (N.told station.old) (N.told station.new) (N.faults station.old) (N.faults station.new))
         ran.authority.history ran.slots.items ran.cause) }
@@ -166,6 +169,7 @@ where
     requires allowed { IsAllowed plan.now }
     requires limits { plan.now.limits ≡ L.limits }
     requires table { opened ≡ T.table }
+    requires free_door { IsFree N.Door.Link.Out.allowed }
     ensures ran { IfOk result (λ ran. HasRun plan.now first (objects (F.told tree.old) (N.told station.old) (N.told station.new) (N.faults station.old) (N.faults station.new))
         ran.authority.history ran.slots.items ran.cause) }
     ensures short { IfErr result (IsShort plan.now (objects (F.told tree.old) (N.told station.old) (N.told station.new) (N.faults station.old) (N.faults station.new))) }
@@ -195,6 +199,7 @@ where
     R: Threads + Wait + Sync,
     requires allowed { IsAllowed plan.now }
     requires limits { plan.now.limits ≡ L.limits }
+    requires free_door { IsFree N.Door.Link.Out.allowed }
     ensures ran { IfOk result (λ ran. HasRun plan.now first (objects (F.told tree.old) (N.told station.old) (N.told station.new) (N.faults station.old) (N.faults station.new))
         ran.authority.history ran.slots.items ran.cause) }
     ensures short { IfErr result (IsShort plan.now (objects (F.told tree.old) (N.told station.old) (N.told station.new) (N.faults station.old) (N.faults station.new))) }
@@ -206,6 +211,7 @@ where
 }
 
 /// Writes what the first load skipped, serves the slots, and prints the lines.
+#[tactic(auto, using(pk_outside::proofs::Going::may_go_free))]
 fn serve_loaded<F, N, O, R>(
     rt: &R,
     alloc: Global,
@@ -221,6 +227,8 @@ where
     O: Sink,
     R: Threads + Wait + Sync,
     requires allowed { IsAllowed plan.now }
+    requires free { IsFree O.allowed }
+    requires free_door { IsFree N.Door.Link.Out.allowed }
     ensures served { (told : Option TreeTold) (from : ℕ) → told ≡ F.told tree.old → IfSome told (λ t. load_of t plan.now.root ≡ Ok first)
         → Serves plan.now (outside told from (F.faults tree.new) (N.told station.old) (N.told station.new)
         (N.faults station.old) (N.faults station.new) (O.held output.old) (O.held output.new) (O.faults output.old) (O.faults output.new)) result }
@@ -271,6 +279,8 @@ where
     O: Sink,
     R: Threads + Wait + Sync,
     requires allowed { IsAllowed plan.now }
+    requires free { IsFree O.allowed }
+    requires free_door { IsFree N.Door.Link.Out.allowed }
     ensures served { Serves plan.now (outside (F.told tree.old) (F.faults tree.old) (F.faults tree.new) (N.told station.old) (N.told station.new)
         (N.faults station.old) (N.faults station.new) (O.held output.old) (O.held output.new) (O.faults output.old) (O.faults output.new)) result }
 {

@@ -6,8 +6,8 @@ ghost use Rattle.client_link.specs.Messages.{Awaits};
 
 use crate::stop::LinkStop;
 use dbus_values::{Next, awaited, next_message};
-use message_buffer::{Filled, MessageBuffer};
 use pk_outside::Source;
+use source_buffer::{Filled, MessageBuffer};
 
 /// Reads until a whole message is at the front of the buffer.
 pub fn await_message<I: Source>(source: &mut I, buffer: &mut MessageBuffer) -> Result<(), LinkStop>

@@ -10,8 +10,8 @@ use crate::awaiting::await_message;
 use crate::stop::LinkStop;
 use client_messages::{AgentBegin, ClientAnswer, answer_of, begin_of};
 use dbus_values::{Next, next_message};
-use message_buffer::MessageBuffer;
 use pk_outside::Source;
+use source_buffer::MessageBuffer;
 use std::alloc::Global;
 
 /// Reads the next message, and answers what it tells of the client's call with this serial.

@@ -1,5 +1,6 @@
 // What a client sends.
 ghost use Rattle.std.specs.Prelude.{◌≡◌, ◌<◌, IsSome, false};
+ghost use Rattle.pk_outside.specs.Allowing.{IsFree};
 ghost use Rattle.dbus_values.specs.Form.{message_bytes};
 ghost use Rattle.authority_messages.specs.Messages.{is_over};
 ghost use Rattle.authority_messages.specs.Outgoing.{under};
@@ -20,6 +21,7 @@ use std::alloc::Global;
 /// # Errors
 /// `Failed` exactly where the sink failed and counted one fault: a prefix of the message was sent;
 /// `NoMemory`, which may come in place of any other answer.
+#[tactic(auto, using(pk_outside::proofs::Going::may_go_free))]
 pub fn send_call<O: Sink>(
     alloc: Global,
     call: &Call,
@@ -29,6 +31,7 @@ pub fn send_call<O: Sink>(
     requires method { IsSome (method_of call.now) }
     requires short { is_over (call_for call.now) ≡ false }
     requires serial { 0 < serial }
+    requires free { IsFree O.allowed }
     ensures sends { Sends (O.held sink.old) (O.held sink.new) (message_bytes false (under serial (call_for call.now))) result }
     ensures faults { O.faults sink.new ≡ faults_after (O.faults sink.old) result }
 {
@@ -43,6 +46,7 @@ pub fn send_call<O: Sink>(
 /// # Errors
 /// `Failed` exactly where the sink failed and counted one fault: a prefix of the message was sent;
 /// `NoMemory`, which may come in place of any other answer.
+#[tactic(auto, using(pk_outside::proofs::Going::may_go_free))]
 pub fn send_reply<O: Sink>(
     alloc: Global,
     reply: AgentReply,
@@ -52,6 +56,7 @@ pub fn send_reply<O: Sink>(
 ) -> Result<(), LinkStop>
     requires to { 0 < to }
     requires serial { 0 < serial }
+    requires free { IsFree O.allowed }
     ensures sends { Sends (O.held sink.old) (O.held sink.new) (message_bytes false (under serial (reply_for reply to))) result }
     ensures faults { O.faults sink.new ≡ faults_after (O.faults sink.old) result }
 {

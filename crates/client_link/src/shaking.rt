@@ -1,5 +1,6 @@
 // The client's half of the handshake over a link.
 ghost use Rattle.std.specs.Prelude.{◌≡◌, ℕ, List, [], None, length};
+ghost use Rattle.pk_outside.specs.Allowing.{IsFree};
 ghost use Rattle.pk_outside.specs.Streams.{Gave};
 ghost use Rattle.link_handshake.specs.Clients.{client_over, client_to_come};
 ghost use Rattle.link_handshake.specs.Shakes.{Open};
@@ -8,8 +9,8 @@ ghost use Rattle.client_link.specs.Shakings.{Accepts, Feeds, ShakesHands};
 
 use crate::stop::LinkStop;
 use link_handshake::{ClientShake, ClientStep, ShakeFault, client_first};
-use message_buffer::{Filled, MessageBuffer};
 use pk_outside::{Sink, Source, write_all};
+use source_buffer::{Filled, MessageBuffer};
 use std::alloc::Global;
 
 /// The line that begins the messages (D-Bus Specification, "Authentication Protocol").
@@ -81,6 +82,7 @@ fn await_acceptance<I: Source>(source: &mut I, buffer: &mut MessageBuffer) -> Re
 /// `BadShake` exactly where the server's line has a fault, and this fault; `Cut` exactly where the
 /// link ended before the end of the line; `Failed` exactly where one of the two directions failed and
 /// counted one fault; `NoMemory`, which may come in place of any other answer.
+#[tactic(auto, using(pk_outside::proofs::Going::may_go_free))]
 pub fn shake_hands<I: Source, O: Sink>(
     alloc: Global,
     uid: u32,
@@ -88,7 +90,8 @@ pub fn shake_hands<I: Source, O: Sink>(
     sink: &mut O,
     buffer: &mut MessageBuffer,
 ) -> Result<(), LinkStop>
-    requires { buffer.old ≡ [] }
+    requires empty { buffer.old ≡ [] }
+    requires free { IsFree O.allowed }
     // What was read, what was written, and what the answer says of both.
     ensures shakes { ShakesHands uid (I.left source.old) (I.left source.new) (I.ended source.new) (O.held sink.old) (O.held sink.new) buffer.new result }
     ensures same { I.origin source.new ≡ I.origin source.old }

@@ -5,7 +5,7 @@ use Rattle.std.specs.Str.{bytes_eq}
 use Rattle.dbus_values.specs.Next.{Seen}
 use Rattle.authority_model.specs.Answers.{cancelled_name}
 use Rattle.authority_model.specs.Words.{Bytes}
-use Rattle.authority_calls.specs.declared.event.TheConstants.{METHOD_CALL}
+use Rattle.dbus_values.specs.declared.codes.TheConstants.{METHOD_CALL}
 use Rattle.authority_calls.specs.Arguments.{Reading, ◌>>=◌, given, as_bytes, as_enter, part_as, text, behind}
 use Rattle.authority_messages.specs.declared.calls.TheConstants.{AGENT}
 use Rattle.authority_messages.specs.Outgoing.{Outgoing, return_to, error_to}

@@ -4,7 +4,7 @@ use Rattle.std.specs.Option.{option_map_or}
 use Rattle.std.specs.Str.{bytes_eq}
 use Rattle.dbus_values.specs.Next.{Seen}
 use Rattle.dbus_values.specs.Parts.{Piece, Number}
-use Rattle.authority_calls.specs.declared.event.TheConstants.{METHOD_RETURN, ERROR}
+use Rattle.dbus_values.specs.declared.codes.TheConstants.{METHOD_RETURN, ERROR}
 use Rattle.authority_calls.specs.declared.methods.Method.TheVariants as method
 use Rattle.authority_calls.specs.Methods.{row_of}
 use Rattle.authority_calls.specs.Arguments.{Reading, ◌>>=◌, given, as_enter, as_leave, part_as, text}

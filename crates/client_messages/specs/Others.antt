@@ -5,7 +5,7 @@ use Rattle.std.specs.Str.{bytes_eq}
 use Rattle.dbus_values.specs.Next.{Seen}
 use Rattle.dbus_values.specs.Parts.{Piece, Text}
 use Rattle.authority_model.specs.Words.{Bytes}
-use Rattle.authority_calls.specs.declared.event.TheConstants.{METHOD_RETURN, ERROR}
+use Rattle.dbus_values.specs.declared.codes.TheConstants.{METHOD_RETURN, ERROR}
 use Rattle.authority_calls.specs.declared.methods.Method.TheVariants as method
 use Rattle.authority_calls.specs.Methods.{row_of}
 use Rattle.client_messages.specs.declared.answer.ClientAnswer.{ClientAnswer}

@@ -8,12 +8,11 @@ ghost use Rattle.authority_messages.specs.Plain.{is_plain};
 ghost use Rattle.authority_messages.specs.Outgoing.{outgoing, under, return_to as return_of, error_to as error_of, IsSent};
 ghost use Rattle.client_messages.specs.Agents.{is_named, is_begin, question, begin_of, reply_for};
 
-use authority_calls::METHOD_CALL;
 use authority_calls::arguments::{behind, bytes, enter, text};
 use authority_calls::fault::ArgumentFault;
 use authority_messages::AGENT;
 use authority_messages::replies::{done, refusal};
-use dbus_values::{Parts, WireMessage, WireOut, write_message};
+use dbus_values::{METHOD_CALL, Parts, WireMessage, WireOut, write_message};
 use pk_types::{ByteList, NoMemory, Text};
 use std::alloc::Global;
 

@@ -11,8 +11,8 @@ ghost use Rattle.client_messages.specs.Answers.{as_boolean, verdict, name, read_
 use authority_calls::arguments::{enter, leave, part, text};
 use authority_calls::fault::ArgumentFault;
 use authority_calls::pairs::pairs;
-use authority_calls::{ERROR, METHOD_RETURN, Method, error_name};
-use dbus_values::{Part, Parts, WireMessage};
+use authority_calls::{Method, error_name};
+use dbus_values::{ERROR, METHOD_RETURN, Part, Parts, WireMessage};
 use pk_types::{NoMemory, PairList, Text};
 use std::alloc::Global;
 

@@ -13,10 +13,10 @@ use authority_model::Event;
 use connection_writer::{Begun, Desk};
 use dbus_values::{Next, awaited, next_message};
 use history_lock::{EndCause, Pass, TableName};
-use message_buffer::{Filled, MessageBuffer};
 use pk_outside::{Clock, Salt, Sink, Source};
 use pk_types::NoMemory;
 use shared_authority::{Kept, LimitsName, Shared};
+use source_buffer::{Filled, MessageBuffer};
 use std::alloc::Global;
 use std::sync::{Mutex, Wait};
 

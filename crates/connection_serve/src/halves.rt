@@ -1,5 +1,6 @@
 // The two halves of a connection, beside each other.
 ghost use Rattle.std.specs.Prelude.{◌≡◌, ◌≢◌, ℕ, Option as TheOption, List as TheList};
+ghost use Rattle.pk_outside.specs.Allowing.{IsFree};
 ghost use Rattle.authority_model.specs.declared.journal.Item.{Item};
 ghost use Rattle.connection_reader.specs.Reading.{ReadFaults, ReadsTo, hand};
 ghost use Rattle.connection_serve.specs.Halves.{Meets};
@@ -12,9 +13,9 @@ use crate::ends::{End, end_of};
 use connection_reader::{ReaderEnd, read_connection};
 use connection_writer::{Begun, Desk, Writer, WriterEnd, write_as_it_comes, write_on};
 use history_lock::{Pass, TableName};
-use message_buffer::MessageBuffer;
 use pk_outside::{Clock, Salt, Sink, Source};
 use shared_authority::{Kept, LimitsName, Shared};
+use source_buffer::MessageBuffer;
 use std::alloc::Global;
 use std::marker::Brand;
 use std::sync::{Mutex, Wait};
@@ -103,6 +104,7 @@ fn read_with_writer<
     requires names { (writer.pass.ghost_name ≡ B.pass_name) × (writer.sink.ghost_name ≡ B.sink_name) }
     requires stands { StandsAt L.limits B.of B.held B.faults B.pass (O.held writer.sink.now) (O.faults writer.sink.now) writer.pass.now writer.end }
     requires fresh { NoneBy caller_of pass.old.number pass.old.history }
+    requires free { IsFree O.allowed }
     ensures names { let (writer, read) = result in (writer.pass.ghost_name ≡ B.pass_name) × (writer.sink.ghost_name ≡ B.sink_name) }
     ensures stands { let (writer, read) = result in StandsAt L.limits B.of B.held B.faults B.pass (O.held writer.sink.now) (O.faults writer.sink.now) writer.pass.now writer.end }
     ensures reads { let (writer, read) = result in ReadsTo L.limits uid (hand pass.old (I.left source.old) (C.gave clock.old) (S.gave salt.old) buffer.old)
@@ -128,7 +130,8 @@ fn finish<L: LimitsName, T: TableName, O: Sink, R: Wait>(
     sink: &mut O,
     end: Option<WriterEnd>,
 ) -> WriterEnd
-    requires { of ≢ 0 }
+    requires connection { of ≢ 0 }
+    requires free { IsFree O.allowed }
     ensures { (v : Known Item) (held : TheOption (TheList ℕ)) (faults : ℕ)
         → StandsAt L.limits of held faults v (O.held sink.old) (O.faults sink.old) collector.old end
         → WritesTo L.limits of held faults v (O.held sink.new) (O.faults sink.new) collector.new result }
@@ -169,6 +172,7 @@ fn beside<
     requires number { of ≡ pass.old.number }
     requires fresh { NoneBy caller_of pass.old.number pass.old.history }
     requires fresh_collector { NoneBy caller_of collector.old.number collector.old.history }
+    requires free { IsFree O.allowed }
     ensures reads { let (wrote, read) = result in ReadsTo L.limits uid (hand pass.old (I.left source.old) (C.gave clock.old) (S.gave salt.old) buffer.old)
         (hand pass.new (I.left source.new) (C.gave clock.new) (S.gave salt.new) buffer.new) (I.ended source.new) read }
     ensures faults { let (wrote, read) = result in ReadFaults I.left I.faults source.old source.new read }
@@ -224,6 +228,7 @@ pub fn serve_messages<
     requires connection { pass.old.number ≢ 0 }
     requires fresh { NoneBy caller_of pass.old.number pass.old.history }
     requires fresh_collector { NoneBy caller_of collector.old.number collector.old.history }
+    requires free { IsFree O.allowed }
     ensures meets { Meets L.limits uid (hand pass.old (I.left source.old) (C.gave clock.old) (S.gave salt.old) buffer.old)
         (hand pass.new (I.left source.new) (C.gave clock.new) (S.gave salt.new) buffer.new) (I.ended source.new) collector.old collector.new
         (O.held sink.old) (O.held sink.new) (I.faults source.old) (I.faults source.new) (O.faults sink.old) (O.faults sink.new) result }

@@ -1,11 +1,12 @@
 // The opening of a connection.
 ghost use Rattle.std.specs.Prelude.{◌≡◌};
+ghost use Rattle.pk_outside.specs.Allowing.{IsFree};
 ghost use Rattle.connection_serve.specs.Halves.{Greets};
 
 use crate::ends::End;
 use link_opening::{Opening, open_link};
-use message_buffer::MessageBuffer;
 use pk_outside::{Sink, Source};
+use source_buffer::MessageBuffer;
 use std::alloc::Global;
 
 /// Reads the client's half of the handshake and answers it, until the messages begin. What was read
@@ -20,6 +21,7 @@ pub fn greet<I: Source, O: Sink>(
     source: &mut I,
     sink: &mut O,
 ) -> Result<MessageBuffer, End>
+    requires free { IsFree O.allowed }
     ensures greets { Greets uid guid (I.left source.old) (I.left source.new) (O.held sink.old) (O.held sink.new) (I.faults source.old) (I.faults source.new) (O.faults sink.old) (O.faults sink.new) result }
     ensures origin { I.origin source.new ≡ I.origin source.old }
 {

@@ -17,6 +17,7 @@ use Rattle.pk_outside.specs.Streams.{Got, GotFront}
 use Rattle.shared_authority.specs.Journals.{Fits, past_of}
 use Rattle.connection_writer.specs.declared.ends.WriterEnd.{WriterEnd}
 use Rattle.connection_writer.specs.declared.ends.WriterEnd.TheVariants as writer
+use Rattle.pk_types.specs.declared.decimals.TheConstants.{MAX_NUMBER}
 
 -- so many Collects of n by the connection b
 abbrev pub collects_of : ℕ → ℕ → ℕ → List Given
@@ -64,6 +65,6 @@ StandsAt limits n held faults v held' faults' w (Some end) = WritesTo limits n h
 -- A batch can be written: its loads are there, its numbers fit 32 bits, and its messages are for a connection.
 pub record IsWritable (b : Batch) : Type 0 where
   pub first : 0 < b.from
-  pub few : b.from + length b.outputs ≤ 4294967295
+  pub few : b.from + length b.outputs ≤ MAX_NUMBER
   pub named : greatest_load b.outputs ≤ length b.loads
   pub sendable : AreSendable b.outputs

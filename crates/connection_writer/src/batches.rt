@@ -1,9 +1,11 @@
 // Writes the messages of a batch.
 ghost use Rattle.std.specs.Prelude.{◌≡◌, ◌+◌, ◌<◌, ◌≤◌, ◌++◌, [], OnOk, length};
+ghost use Rattle.pk_outside.specs.Allowing.{IsFree};
 ghost use Rattle.authority_laws.specs.Batches.{AreSendable, IsSendable};
 ghost use Rattle.authority_messages.specs.Texts.{message_text, texts};
 ghost use Rattle.connection_writer.specs.Writing.{IsWritable};
 ghost use Rattle.connection_writer.specs.Written.{HasStopped, Writes, WritesUpTo};
+ghost use Rattle.pk_types.specs.declared.decimals.TheConstants.{MAX_NUMBER};
 
 use crate::ends::WriteStop;
 use authority_core::Batch;
@@ -17,7 +19,9 @@ use std::alloc::Global;
 const WRITE_BYTES: usize = 65536;
 
 /// Writes the bytes that are ready.
+#[tactic(auto, using(pk_outside::proofs::Going::may_go_free))]
 fn write_ready<O: Sink>(ready: &mut Vec<u8>, sink: &mut O) -> Result<(), WriteStop>
+    requires free { IsFree O.allowed }
     ensures writes { Writes (O.held sink.old) (O.held sink.new) ready.old.items result }
     ensures empty { OnOk result (ready.new.items ≡ []) }
     ensures later { O.faults sink.old ≤ O.faults sink.new }
@@ -39,6 +43,7 @@ fn add_message<O: Sink>(
 ) -> Result<(), WriteStop>
     requires sendable { IsSendable output.now.message }
     requires serial { 0 < serial }
+    requires free { IsFree O.allowed }
     ensures writes { WritesUpTo (O.held sink.old) (O.held sink.new) (ready.old.items ++ message_text history.now.loads serial output.now) ready.new.items result }
     ensures later { O.faults sink.old ≤ O.faults sink.new }
     ensures stopped { HasStopped (O.faults sink.old) (O.faults sink.new) result }
@@ -63,8 +68,9 @@ fn add_messages<O: Sink>(
     sink: &mut O,
 ) -> Result<(), WriteStop>
     requires first { 0 < first }
-    requires few { first + length outputs.now ≤ 4294967295 }
+    requires few { first + length outputs.now ≤ MAX_NUMBER }
     requires sendable { AreSendable outputs.now }
+    requires free { IsFree O.allowed }
     ensures writes { WritesUpTo (O.held sink.old) (O.held sink.new) (ready.old.items ++ texts history.now.loads first outputs.now) ready.new.items result }
     ensures later { O.faults sink.old ≤ O.faults sink.new }
     ensures stopped { HasStopped (O.faults sink.old) (O.faults sink.new) result }
@@ -79,7 +85,8 @@ fn add_messages<O: Sink>(
 
 /// Writes the messages of a batch, in few writes.
 pub fn write_batch<O: Sink>(alloc: Global, batch: Batch, sink: &mut O) -> Result<(), WriteStop>
-    requires { IsWritable batch }
+    requires writable { IsWritable batch }
+    requires free { IsFree O.allowed }
     ensures writes { Writes (O.held sink.old) (O.held sink.new) (texts batch.loads batch.from batch.outputs) result }
     ensures later { O.faults sink.old ≤ O.faults sink.new }
     ensures stopped { HasStopped (O.faults sink.old) (O.faults sink.new) result }

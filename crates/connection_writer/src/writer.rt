@@ -1,5 +1,6 @@
 // The loop of the writing half.
 ghost use Rattle.std.specs.Prelude.{◌≡◌, ◌≢◌, ◌≤◌, ◌^◌, ℕ, None, IfOk, IfErr, Option as TheOption, List as TheList};
+ghost use Rattle.pk_outside.specs.Allowing.{IsFree};
 ghost use Rattle.authority_model.specs.declared.journal.Item.{Item};
 ghost use Rattle.history_lock.specs.Entries.{NoneBy};
 ghost use Rattle.history_lock.specs.Known.{Known};
@@ -31,7 +32,8 @@ fn write_collected<L: LimitsName, T: TableName, O: Sink, R: Wait>(
     now: CollectedNow,
     sink: &mut O,
 ) -> Result<bool, WriterEnd>
-    requires { (before : Known Item) × (of : ℕ) × (of ≢ 0) × CollectsNow L.limits before of now pass.old }
+    requires collects { (before : Known Item) × (of : ℕ) × (of ≢ 0) × CollectsNow L.limits before of now pass.old }
+    requires free { IsFree O.allowed }
     ensures stands { (before v : Known Item) (of : ℕ) (held : TheOption (TheList ℕ)) (faults : ℕ)
         → CollectsNow L.limits before of now pass.old
         → StandsAt L.limits of held faults v (O.held sink.old) (O.faults sink.old) before None
@@ -66,7 +68,8 @@ fn write_next<L: LimitsName, T: TableName, O: Sink, R: Wait>(
     of: u32,
     sink: &mut O,
 ) -> Result<bool, WriterEnd>
-    requires { of ≢ 0 }
+    requires connection { of ≢ 0 }
+    requires free { IsFree O.allowed }
     ensures stands { (v : Known Item) (held : TheOption (TheList ℕ)) (faults : ℕ)
         → StandsAt L.limits of held faults v (O.held sink.old) (O.faults sink.old) pass.old None
         → StandsAt L.limits of held faults v (O.held sink.new) (O.faults sink.new) pass.new (end_in result) }
@@ -86,7 +89,8 @@ fn write_ready<L: LimitsName, T: TableName, O: Sink, R: Wait>(
     of: u32,
     sink: &mut O,
 ) -> Option<WriterEnd>
-    requires { of ≢ 0 }
+    requires connection { of ≢ 0 }
+    requires free { IsFree O.allowed }
     ensures stands { (v : Known Item) (held : TheOption (TheList ℕ)) (faults : ℕ)
         → StandsAt L.limits of held faults v (O.held sink.old) (O.faults sink.old) pass.old None
         → StandsAt L.limits of held faults v (O.held sink.new) (O.faults sink.new) pass.new result }
@@ -114,7 +118,8 @@ pub fn write_on<L: LimitsName, T: TableName, O: Sink, R: Wait>(
     of: u32,
     sink: &mut O,
 ) -> WriterEnd
-    requires { of ≢ 0 }
+    requires connection { of ≢ 0 }
+    requires free { IsFree O.allowed }
     ensures stands { (v : Known Item) (held : TheOption (TheList ℕ)) (faults : ℕ)
         → StandsAt L.limits of held faults v (O.held sink.old) (O.faults sink.old) pass.old None
         → WritesTo L.limits of held faults v (O.held sink.new) (O.faults sink.new) pass.new result }
@@ -144,6 +149,7 @@ pub fn write_answers<L: LimitsName, T: TableName, O: Sink, R: Wait>(
 ) -> WriterEnd
     requires connection { of ≢ 0 }
     requires fresh { NoneBy caller_of pass.old.number pass.old.history }
+    requires free { IsFree O.allowed }
     ensures writes { WritesTo L.limits of (O.held sink.old) (O.faults sink.old) pass.old (O.held sink.new) (O.faults sink.new) pass.new result }
     ensures later { O.faults sink.old ≤ O.faults sink.new }
 {
@@ -170,7 +176,8 @@ pub struct Writer<'a, L: LimitsName, T: TableName, O: Sink> {
 impl<'a, L: LimitsName, T: TableName, O: Sink> Writer<'a, L, T, O> {
     /// Collects what is there and writes it, unless writing has ended.
     pub(crate) fn write_ready<R: Wait>(&mut self, rt: &R, shared: &Shared<L, T>)
-        requires { self.old.of ≢ 0 }
+        requires of { self.old.of ≢ 0 }
+        requires free { IsFree O.allowed }
         ensures stands { (v : Known Item) (held : TheOption (TheList ℕ)) (faults : ℕ)
             → StandsAt L.limits self.old.of held faults v (O.held self.old.sink.now) (O.faults self.old.sink.now) self.old.pass.now self.old.end
             → StandsAt L.limits self.old.of held faults v (O.held self.new.sink.now) (O.faults self.new.sink.now) self.new.pass.now self.new.end }
@@ -198,6 +205,7 @@ impl<'a, L: LimitsName, T: TableName, O: Sink> Writer<'a, L, T, O> {
         requires of { self.old.of ≢ 0 }
         requires event { IsStepped event }
         requires moment { moment ≤ 2 ^ 62 }
+        requires free { IsFree O.allowed }
         ensures ok { IfOk result (λ place. Submitted pass.old (event_given pass.old.number moment salt event) place pass.new) }
         ensures err { IfErr result (λ refused. SubmitIsRefused L.limits pass.old event refused pass.new) }
         ensures stands { (v : Known Item) (held : TheOption (TheList ℕ)) (faults : ℕ)

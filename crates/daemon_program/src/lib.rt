@@ -4,9 +4,12 @@
 //! and the streams on, and tells how it ended.
 #![tactic(auto)]
 
-use pk_outside::{ReadSource, Station, Tree, WriteSink};
+ghost use Rattle.pk_outside.specs.Allowing.{IsFree};
+
+use command_line::{ProgramTexts, WordsRefused, words};
+use pk_outside::{Station, Tree};
 use polkit_daemon::{Status, polkitd};
-use program_words::{ProgramTexts, WordsRefused, words};
+use real_outside::{ReadSource, WriteSink};
 use std::io;
 use std::process::ExitCode;
 use std::rt::Env;
@@ -63,6 +66,7 @@ where
     R::Reader: Send,
     T: Tree,
     N: Station,
+    requires free_door { IsFree N.Door.Link.Out.allowed }
 {
     let words = match words(rt) {
         Ok(words) => words,
@@ -95,6 +99,7 @@ where
     R::Reader: Send,
     T: Tree,
     N: Station,
+    requires free_door { IsFree N.Door.Link.Out.allowed }
 {
     let status = command(rt, tree, station);
     if status.code() != 0 {

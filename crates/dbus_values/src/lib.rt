@@ -34,11 +34,13 @@ mod wire_out;
 mod write;
 
 pub use awaiting::awaited;
+pub use codes::{ERROR, MAX_MESSAGE, METHOD_CALL, METHOD_RETURN, SIGNAL};
 pub use fault::FaultKind;
 pub use message::{Next, next_message};
 pub use part::Part;
 pub use parts::Parts;
 pub use posting::write_message;
+pub use runs::MOST_PARTS;
 pub use size::message_size;
 pub use strings::is_path;
 pub use value::{Value, ValueList};

@@ -159,7 +159,7 @@ pub fn next_run<'a>(
 }
 
 /// More parts than any message has.
-const MOST_PARTS: usize = 4294967296;
+pub const MOST_PARTS: usize = 4_294_967_296;
 
 /// How many parts the values of a signature have, inside which at most `limit` containers stand,
 /// and what follows them. Nothing of the walk before counts.

@@ -10,6 +10,7 @@ use Rattle.history_lock.specs.declared.refused.AdmitRefused.{AdmitRefused}
 use Rattle.history_lock.specs.declared.refused.AdmitRefused.TheVariants.{Full}
 use Rattle.history_lock.specs.declared.refused.CallRefused.{CallRefused}
 use Rattle.history_lock.specs.declared.refused.CallRefused.TheVariants.{Ended, Machine}
+use Rattle.history_lock.specs.declared.machine.TheConstants.{MOST_PASSES}
 
 module _ {I : Type 0} (caller_of : I → ℕ) (Legal : List I → Type 0) where
   -- The pass has learned of entries and of passes, and has no entry more of its own.
@@ -67,7 +68,7 @@ module _ {I : Type 0} (caller_of : I → ℕ) (Legal : List I → Type 0) where
 
   -- No pass was made, since none was left, and the old pass knows it.
   abbrev pub NoneAdmitted : Known I → AdmitRefused → Known I → Type 0
-  NoneAdmitted v (Full admitted) w = (admitted ≡ 1048576) × (w.made ≡ 1048576) × Learned v w
+  NoneAdmitted v (Full admitted) w = (admitted ≡ MOST_PASSES) × (w.made ≡ MOST_PASSES) × Learned v w
 
 module _ {I O R : Type 0} (caller_of : I → ℕ) (Legal : List I → Type 0) (is_ready : ℕ → O → List I → Type 0) (gives : ℕ → O → List I → I → R → Type 0) where
   -- The machine was called: the operation was ready after the entries before the new one, and the entry and the reply are the machine's after them.

@@ -9,6 +9,7 @@ use Rattle.history_lock.specs.declared.view.Kind.TheVariants.{Book, Caller, Note
 use Rattle.history_lock.specs.declared.view.View.{View}
 use Rattle.history_lock.specs.Entries.{CallersBelow, OwnBelowOrLast}
 use Rattle.history_lock.specs.Causes.{KnowsEnd}
+use Rattle.history_lock.specs.declared.machine.TheConstants.{MOST_PASSES}
 
 -- the book's view as the table opens: no entry, no pass made, no cause kept, nobody in flight
 abbrev pub opened : {I : Type 0} → View I
@@ -75,7 +76,7 @@ module _ {I : Type 0} (caller_of : I → ℕ) (Legal : List I → Type 0) where
     -- the one word of the table counts the entries
     pub word : words ≡ length v.history ∷ []
     -- no more than 1,048,576 passes are made
-    pub top : v.made ≤ 1048576
+    pub top : v.made ≤ MOST_PASSES
     -- the passes of all callers of entries were made
     pub callers : CallersBelow caller_of v.history v.made
     -- each view fits the book's
@@ -106,7 +107,7 @@ module _ {I : Type 0} (caller_of : I → ℕ) (Legal : List I → Type 0) where
     -- and so is one that it was told
     pub note_ended : KnowsEnd v.note_ended v.note_history v.ended v.history
     -- no more than 1,048,576 passes are made
-    pub top : v.made ≤ 1048576
+    pub top : v.made ≤ MOST_PASSES
     -- of the book: the passes of all callers of entries were made
     pub callers : v.kind ≡ Book → CallersBelow caller_of v.history v.made
     -- of a caller: its own pass was made, and it names nobody

@@ -17,7 +17,7 @@ mod woken;
 
 pub use lock::{HistoryLock, Opened, open_table};
 pub use locked::NextAnswer;
-pub use machine::{EndCause, Machine};
+pub use machine::{EndCause, MOST_PASSES, Machine};
 pub use pass::{Pass, TableName};
 pub use refused::{AdmitRefused, CallRefused};
 pub use view::{Counted, Kind, View};

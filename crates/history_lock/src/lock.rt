@@ -3,6 +3,7 @@ ghost use Rattle.std.specs.Prelude.{max, ◌≡◌, ◌≤◌, ◌⊎◌, List, 
 ghost use Rattle.std.specs.Sync.Mutex.{mutex_guard_value};
 ghost use mathlib.Core.List.{IsPrefix};
 ghost use Rattle.history_lock.specs.declared.machine.EndCause.{EndCause};
+ghost use Rattle.history_lock.specs.declared.machine.TheConstants.{MOST_PASSES};
 ghost use Rattle.history_lock.specs.Kinds.{longer_of};
 ghost use Rattle.history_lock.specs.Causes.{known_or};
 ghost use Rattle.history_lock.specs.Calls.{Learned, Answered, Refused, Admitted, NoneAdmitted};
@@ -301,7 +302,7 @@ impl<M: Machine, T: TableName> HistoryLock<M, T> {
         requires { M.fits cause pass.old.history pass.old.made }
         ensures fits { M.fits result pass.new.history pass.new.made }
         ensures learned { Learned M.caller_of M.legal pass.old pass.new }
-        ensures top { pass.new.made ≤ 1048576 }
+        ensures top { pass.new.made ≤ MOST_PASSES }
         ensures knows { pass.new.ended ≡ Some result }
         ensures knew { IfSome pass.old.ended (λ known. result ≡ known) }
     {
@@ -325,7 +326,7 @@ impl<M: Machine, T: TableName> HistoryLock<M, T> {
             → first.old.ended ≡ Some cause
             → second.old.ended ≡ Some other
             → cause ≡ other }
-        ensures top { first.new.made ≤ 1048576 }
+        ensures top { first.new.made ≤ MOST_PASSES }
         ensures first { Learned M.caller_of M.legal first.old first.new }
         ensures second { Learned M.caller_of M.legal second.old second.new }
     {

@@ -11,16 +11,13 @@ ghost use Rattle.history_lock.specs.Waking.{Wakes};
 ghost use Rattle.history_lock.specs.Kinds.{ended_by, longer_of};
 ghost use Rattle.history_lock.specs.Calls.{Learned, Answered, Refused, IsEndedBy, Admitted, NoneAdmitted};
 
-use crate::machine::{EndCause, Machine};
+use crate::machine::{EndCause, MOST_PASSES, Machine};
 use crate::pass::{Pass, TableName};
 use crate::refused::{AdmitRefused, CallRefused};
 use crate::steps;
 use crate::view::{LockSeat, LockTable};
 use crate::woken::{Whom, Woken};
 use std::marker::{Brand, Model, PhantomData};
-
-/// How many passes a lock has.
-const MOST_PASSES: u32 = 1_048_576;
 
 /// So many words of eight bytes fill, with the word of the lock, a cache line and the one that is
 /// fetched with it.
@@ -47,6 +44,7 @@ pub struct Locked<M: Machine, T: TableName> {
 
 impl<M: Machine, T: TableName> Model for Locked<M, T> {
     ghost use Rattle.std.specs.Prelude.{◌≡◌, ◌≤◌};
+    ghost use Rattle.history_lock.specs.declared.machine.TheConstants.{MOST_PASSES};
     ghost use Rattle.history_lock.specs.Known.{Held};
     ghost use Rattle.history_lock.specs.Calls.{IsBook, CauseFits};
     ghost use Rattle.history_lock.specs.Views.{view_of};
@@ -57,7 +55,7 @@ impl<M: Machine, T: TableName> Model for Locked<M, T> {
 
     ghost invariant = { λ l. (l.book.table_id ≡ T.table)
         × IsBook (view_of l.book.me) (M.entries l.machine) l.made l.cause
-        × (l.made ≤ 1048576)
+        × (l.made ≤ MOST_PASSES)
         × CauseFits M.fits l.cause (M.entries l.machine) l.made };
 }
 
@@ -84,7 +82,7 @@ pub fn settle_receipt<M: Machine, T: TableName>(
     ensures made { pass.old.made ≤ (view_of book.old.me).made }
     ensures ended { KnowsEnd pass.old.ended pass.old.history
         (view_of book.old.me).ended (view_of book.old.me).history }
-    ensures top { (view_of book.old.me).made ≤ 1048576 }
+    ensures top { (view_of book.old.me).made ≤ MOST_PASSES }
     ensures number { pass.old.number < pass.old.made }
     ensures legal { M.legal (view_of book.old.me).history }
     ensures callers { CallersBelow M.caller_of (view_of book.old.me).history (view_of book.old.me).made }
@@ -114,7 +112,7 @@ pub fn take_note_of_book<M: Machine, T: TableName>(
     ensures known { KnowsEnd pass.old.ended pass.old.history pass.new.ended pass.new.history }
     ensures number { pass.new.number ≡ pass.old.number }
     ensures legal { M.legal pass.new.history }
-    ensures top { pass.new.made ≤ 1048576 }
+    ensures top { pass.new.made ≤ MOST_PASSES }
     ensures own { OwnBelowOrLast M.caller_of pass.old.number (view_of book.old.me).history
         (length pass.old.history) (view_of book.old.me).in_flight (length (view_of book.old.me).history) }
 {
@@ -140,7 +138,7 @@ pub fn take_note_of_pass<M: Machine, T: TableName>(
     ensures covers { IsPrefix from.old.history to.new.history }
     ensures number { to.new.number ≡ to.old.number }
     ensures legal { M.legal to.new.history }
-    ensures top { to.new.made ≤ 1048576 }
+    ensures top { to.new.made ≤ MOST_PASSES }
     ensures own { OwnBelow M.caller_of to.old.number to.new.history (length to.old.history) }
 {
     let note = steps::note(table, &mut from.seat);
@@ -322,7 +320,7 @@ impl<M: Machine, T: TableName> Locked<M, T> {
         ensures ok { IfOk result (λ new. Admitted M.caller_of M.legal pass.old new pass.new) }
         ensures full { IfErr result (λ r. NoneAdmitted M.caller_of M.legal pass.old r pass.new) }
         ensures made { IfOk result (λ new. (new.number ≡ self.old.made) × (self.new.made ≡ self.old.made + 1)) }
-        ensures only_full { IfErr result (λ _. (self.old.made ≡ 1048576) × (self.new.made ≡ self.old.made)) }
+        ensures only_full { IfErr result (λ _. (self.old.made ≡ MOST_PASSES) × (self.new.made ≡ self.old.made)) }
         ensures whole { pass.new.history ≡ self.old.entries }
         ensures rest { (self.new.entries ≡ self.old.entries) × (self.new.ended ≡ self.old.ended) }
     {
@@ -351,7 +349,7 @@ impl<M: Machine, T: TableName> Locked<M, T> {
         requires fits { M.fits cause pass.old.history pass.old.made }
         ensures fits { M.fits result pass.new.history pass.new.made }
         ensures learned { Learned M.caller_of M.legal pass.old pass.new }
-        ensures top { pass.new.made ≤ 1048576 }
+        ensures top { pass.new.made ≤ MOST_PASSES }
         ensures knows { pass.new.ended ≡ Some result }
         ensures knew { IfSome pass.old.ended (λ known. result ≡ known) }
         ensures kept { self.new.ended ≡ Some result }

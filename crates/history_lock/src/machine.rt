@@ -1,9 +1,13 @@
 // What lies under the lock.
 ghost use Rattle.std.specs.Prelude.{◌≡◌, ℕ, ◌^◌, ◌≤◌, ◌↔◌, ◌⊎◌, List, [], ◌∷◌, ◌++◌, length, IfOk, IfErr, IsTrue};
 ghost use mathlib.Core.List.{IsPrefix};
+ghost use Rattle.history_lock.specs.declared.machine.TheConstants.{MOST_PASSES};
 ghost use Rattle.history_lock.specs.Waking.{Wakes};
 
 use crate::woken::Woken;
+
+/// How many passes a lock can admit.
+pub const MOST_PASSES: u32 = 1_048_576;
 
 /// Why a lock has ended.
 #[derive(Clone, Copy, PartialEq, Eq, Debug)]
@@ -103,6 +107,6 @@ pub trait Machine {
     /// A cause that fits goes on to fit, as legal entries come and as passes are made, of which
     /// there are at most 1,048,576.
     ghost lasts: { (cause : EndCause) (list more : List Self.Item) (m n : ℕ)
-        → fits cause list m → legal more → IsPrefix list more → m ≤ n → n ≤ 1048576
+        → fits cause list m → legal more → IsPrefix list more → m ≤ n → n ≤ MOST_PASSES
         → fits cause more n };
 }

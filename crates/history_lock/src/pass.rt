@@ -1,4 +1,5 @@
 // A pass, which is a caller's seat at the table.
+ghost use Rattle.history_lock.specs.declared.machine.TheConstants.{MOST_PASSES};
 ghost use Rattle.std.specs.Prelude.{◌≡◌, ◌<◌, ◌≤◌};
 
 use crate::machine::Machine;
@@ -33,6 +34,7 @@ impl<M: Machine, T: TableName> Model for Pass<M, T> {
     ghost use Rattle.std.specs.Prelude.{◌≡◌, None, ◌<◌, ◌≤◌};
     ghost use Rattle.history_lock.specs.Known.{Known};
     ghost use Rattle.history_lock.specs.Views.{view_of};
+    ghost use Rattle.history_lock.specs.declared.machine.TheConstants.{MOST_PASSES};
     ghost use Rattle.history_lock.specs.declared.view.Kind.TheVariants.{Caller};
 
     ghost Value = { Known M.Item };
@@ -44,7 +46,7 @@ impl<M: Machine, T: TableName> Model for Pass<M, T> {
         × ((view_of p.seat.me).in_flight ≡ None)
         × ((view_of p.seat.me).number ≡ p.number)
         × (p.number < (view_of p.seat.me).made)
-        × ((view_of p.seat.me).made ≤ 1048576)
+        × ((view_of p.seat.me).made ≤ MOST_PASSES)
         × M.legal (view_of p.seat.me).history };
 }
 
@@ -53,7 +55,7 @@ impl<M: Machine, T: TableName> Pass<M, T> {
     pub fn number(&self) -> u32
         ensures number { result ≡ self.now.number }
         ensures below { result < self.now.made }
-        ensures top { self.now.made ≤ 1048576 }
+        ensures top { self.now.made ≤ MOST_PASSES }
         ensures legal { M.legal self.now.history }
     {
         self.number

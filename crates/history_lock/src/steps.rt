@@ -2,6 +2,7 @@
 // says what it makes of the views.
 ghost use Rattle.std.specs.Prelude.{◌≡◌, ◌+◌, ◌<◌, ◌^◌, ◌⊎◌, [], ◌∷◌, ◌++◌, None, Some, length, IfOk};
 ghost use Rattle.history_lock.specs.declared.view.Kind.TheVariants.{Book, Caller, Note, Receipt};
+ghost use Rattle.history_lock.specs.declared.machine.TheConstants.{MOST_PASSES};
 ghost use Rattle.history_lock.specs.Rule.{IsTold, opened};
 ghost use Rattle.history_lock.specs.Views.{view_of, slots_of, with_view};
 ghost use Rattle.history_lock.specs.Kinds.{counted_up, newcomer, appended, ended_by, note_of, taken, receipt_of, settled};
@@ -77,7 +78,7 @@ pub fn admit<M: Machine>(table: &LockTable<M>, book: &mut LockSeat<M>) -> LockSe
         × (table.now.shared.table_id.words ≡ 1) }
     requires book { ((view_of book.old.me).kind ≡ Book)
         × ((view_of book.old.me).in_flight ≡ None)
-        × ((view_of book.old.me).made < 1048576) }
+        × ((view_of book.old.me).made < MOST_PASSES) }
     ensures same { (book.new.table_id ≡ book.old.table_id)
         × (book.new.me ≡ with_view (counted_up (view_of book.old.me)) book.old.me) }
     ensures new { (result.table_id ≡ book.old.table_id) × (result.me ≡ (newcomer (view_of book.old.me), [])) }

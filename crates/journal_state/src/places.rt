@@ -7,7 +7,7 @@ ghost use Rattle.journal_state.specs.declared.places.OutputPlace.{OutputPlace};
 ghost use Rattle.journal_state.specs.Placed.{Locates, output_at, places_in, places_to};
 
 use authority_model::Output;
-use pk_types::{List, NoMemory};
+use pk_types::{List, MAX_NUMBER, NoMemory};
 use std::alloc::Global;
 use std::collections::BTreeMap;
 use std::marker::Model;
@@ -145,7 +145,7 @@ impl SentPlaces {
         ensures next { (past : TheList Item) → Locates self.now past → IfOk result (λ n. n ≡ sent past caller + 1) }
     {
         let count = self.count(caller);
-        if count < 4_294_967_295 {
+        if count < u64::from(MAX_NUMBER) {
             Ok(count as u32 + 1)
         } else {
             Err(NoMemory)

@@ -5,7 +5,7 @@ ghost use Rattle.authority_model.specs.Items.{sent, count_to};
 ghost use Rattle.journal_state.specs.Counted.{Counts, CanCount, CanCountTo, CanCountAll, sent_in};
 
 use authority_model::Output;
-use pk_types::NoMemory;
+use pk_types::{MAX_NUMBER, NoMemory};
 use std::alloc::Global;
 use std::collections::BTreeMap;
 use std::marker::Model;
@@ -119,7 +119,7 @@ impl SentCounts {
         ensures number { IfOk result (λ n. n ≡ sent_in self.now caller + 1) }
     {
         let count = count(&self.counts, caller);
-        if count < 4_294_967_295 {
+        if count < u64::from(MAX_NUMBER) {
             Ok(count as u32 + 1)
         } else {
             Err(NoMemory)

@@ -2,7 +2,7 @@
 use Rattle.std.proofs.Common.{◌≡◌, ℕ, List, [], ◌∷◌, ◌++◌, Some, None, refl, ap, ◌∙◌, eq-eqb}
 use Rattle.std.specs.Prelude.{if◌then◌else◌}
 use Rattle.std.proofs.lemmas.Bool.{ne_eqb}
-use Rattle.byte_pieces.specs.Pieces.{Lacks, IsCut}
+use Rattle.pk_types.specs.Pieces.{Lacks, IsCut}
 use Rattle.keyfile_text.specs.Bytes.{onto_front, cut_at}
 
 pub cut_at-none : (at : ℕ) (bytes : List ℕ) → Lacks at bytes → cut_at at bytes ≡ None

@@ -5,7 +5,7 @@ use Rattle.std.proofs.lemmas.Bool.{ne_eqb}
 use Rattle.std.proofs.lemmas.Bool.Decides.{Decides-eqb}
 use Rattle.std.proofs.lemmas.List.{take-append-drop, take_more}
 use Rattle.keyfile_text.proofs.Cleans.{clean-cut, clean-append, clean-byte}
-use Rattle.byte_pieces.specs.Pieces.{onto_first}
+use Rattle.pk_types.specs.Pieces.{onto_first}
 use Rattle.keyfile_text.specs.Bytes.{is_empty, trim, IsClean}
 use Rattle.keyfile_text.specs.Escapes.{escaped}
 use Rattle.keyfile_text.specs.Items.{decoded_onto, pieces_behind, kept, items_of}

@@ -3,7 +3,7 @@ use Rattle.std.proofs.Common.{◌≡◌, ◌≢◌, ℕ, ◌==◌, List, [], ◌
 use Rattle.std.proofs.lemmas.List.{take_at, drop_at, take_all, drop_all}
 use Rattle.std.specs.Prelude.{if◌then◌else◌}
 use Rattle.std.proofs.lemmas.Bool.{ne_eqb}
-use Rattle.byte_pieces.specs.Pieces.{Lacks, IsCut, onto_first}
+use Rattle.pk_types.specs.Pieces.{Lacks, IsCut, onto_first}
 use Rattle.keyfile_text.specs.Bytes.{IsClean}
 use Rattle.keyfile_text.proofs.Cleans.{clean-cut, clean-append, clean-byte}
 use Rattle.keyfile_text.specs.Lines.{raw_lines}

@@ -1,6 +1,6 @@
 -- The items of a list value.
 use Rattle.std.specs.Prelude.{ℕ, ◌==◌, Bool, true, false, not, List, [], ◌∷◌, Option, Some, None, map, filter, if◌then◌else◌}
-use Rattle.byte_pieces.specs.Pieces.{onto_first}
+use Rattle.pk_types.specs.Pieces.{onto_first}
 use Rattle.keyfile_text.specs.Bytes.{is_empty, trim}
 use Rattle.keyfile_text.specs.Escapes.{escaped}
 

@@ -4,6 +4,7 @@ use Rattle.pk_types.specs.Text.{text_bad}
 use Rattle.keyfile_text.specs.Bytes.{trim}
 use Rattle.keyfile_text.specs.Lines.{raw_lines, without_end, Line, Blank, Header, Setting, Faulty, line_of}
 use Rattle.keyfile_text.specs.Merging.{open_group, set_in}
+use Rattle.keyfile_text.specs.declared.reading.TheConstants.{MAX_KEY_FILE}
 use Rattle.keyfile_text.specs.declared.groups.KeyGroup.{KeyGroup}
 use Rattle.keyfile_text.specs.declared.fault.KeyFault.{KeyFault}
 use Rattle.keyfile_text.specs.declared.fault.KeyFaultKind.{KeyFaultKind}
@@ -44,10 +45,10 @@ abbrev pub groups_unless : Option ℕ → List ℕ → Result (List KeyGroup) Ke
 groups_unless (Some at) bytes = Err (record { kind = kind.NotUtf8; at = at })
 groups_unless None bytes = add_lines 0 (raw_lines bytes) no_groups
 
--- the groups of a file of at most 1,048,576 bytes
+-- the groups of a file of at most 1 MiB
 abbrev pub groups_of : List ℕ → Result (List KeyGroup) KeyFault
 groups_of bytes =
-    if nat_lt 1048576 (length bytes) then Err (record { kind = kind.TooLong; at = 0 })
+    if nat_lt MAX_KEY_FILE (length bytes) then Err (record { kind = kind.TooLong; at = 0 })
     else groups_unless (text_bad bytes) bytes
 
 -- the fault is the first one, and want of memory is free

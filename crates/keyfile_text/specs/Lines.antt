@@ -1,6 +1,6 @@
 -- The lines of a key file.
 use Rattle.std.specs.Prelude.{ℕ, ◌==◌, ◌-◌, Bool, not, nat_lt, List, [], ◌∷◌, length, take, drop, Option, Some, None, if◌then◌else◌, bytes_eq}
-use Rattle.byte_pieces.specs.Pieces.{onto_first}
+use Rattle.pk_types.specs.Pieces.{onto_first}
 use Rattle.pk_types.specs.declared.text.TheConstants.{MAX_TEXT}
 use Rattle.keyfile_text.specs.Bytes.{is_empty, trim, cut_at}
 use Rattle.std.specs.List.{list_any}

@@ -1,6 +1,6 @@
 -- Bytes of a value that stand for themselves.
 use Rattle.std.specs.Prelude.{◌≡◌, ◌≢◌, ℕ, ◌⊎◌, ◌<◌, ◌≤◌, true, false, List, [], ◌∷◌, ◌++◌, length}
-use Rattle.byte_pieces.specs.Pieces.{onto_first}
+use Rattle.pk_types.specs.Pieces.{onto_first}
 use Rattle.keyfile_text.specs.Bytes.{IsClean}
 use Rattle.keyfile_text.specs.Items.{pieces_behind}
 

@@ -15,4 +15,5 @@ mod slices;
 pub use fault::{KeyFault, KeyFaultKind};
 pub use groups::{Groups, GroupsList, KeyGroup};
 pub use listing::items;
-pub use reading::read;
+pub use reading::{MAX_KEY_FILE, read};
+pub use slices::trimmed;

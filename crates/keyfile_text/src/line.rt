@@ -7,8 +7,7 @@ ghost use Rattle.keyfile_text.specs.Maps.{line_in, SaysTexts};
 use crate::escape::are_escapes_whole;
 use crate::fault::KeyFaultKind;
 use crate::slices::trimmed;
-use byte_pieces::cut;
-use pk_types::MAX_TEXT;
+use pk_types::{MAX_TEXT, cut};
 
 /// What a line says that has no fault.
 #[derive(Clone, Copy)]

@@ -13,8 +13,8 @@ use crate::slices::{line_text, next_line, trimmed};
 use pk_types::bad_byte;
 use std::alloc::Global;
 
-/// The greatest number of bytes of a key file.
-const MAX_FILE: usize = 1_048_576;
+/// The greatest number of bytes of a key file: 1 MiB.
+pub const MAX_KEY_FILE: usize = 1_048_576;
 
 fn read_lines<'a>(alloc: Global, bytes: &'a [u8]) -> Result<GroupMap<'a>, KeyFault>
     requires { IsClean bytes.now }
@@ -47,7 +47,7 @@ fn read_lines<'a>(alloc: Global, bytes: &'a [u8]) -> Result<GroupMap<'a>, KeyFau
 pub fn read(alloc: Global, bytes: &[u8]) -> Result<Groups, KeyFault>
     ensures read { ReadAs bytes.now result }
 {
-    if bytes.len() > MAX_FILE {
+    if bytes.len() > MAX_KEY_FILE {
         return Err(KeyFault {
             kind: KeyFaultKind::TooLong,
             at: 0,

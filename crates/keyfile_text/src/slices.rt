@@ -3,7 +3,7 @@ ghost use Rattle.std.specs.Prelude.{◌≡◌, ◌+◌, ◌<◌, ◌≤◌, ◌=
 ghost use Rattle.keyfile_text.specs.Bytes.{is_blank_of, trim_front, trim_back, trim, IsClean};
 ghost use Rattle.keyfile_text.specs.Lines.{raw_lines, without_end};
 
-use byte_pieces::cut;
+use pk_types::cut;
 
 fn is_blank(b: u8) -> bool
     ensures blank { result ≡ is_blank_of b }

@@ -2,15 +2,13 @@
 //! source and answered into a sink, until the messages begin (D-Bus Specification,
 //! "Authentication Protocol").
 //!
-//! The bytes come through a [`message_buffer::MessageBuffer`]. What was read behind `BEGIN` stays in
+//! The bytes come through a [`source_buffer::MessageBuffer`]. What was read behind `BEGIN` stays in
 //! it, and is the beginning of the first message.
 #![tactic(auto)]
 
 mod ends;
 mod feeding;
 mod opening;
-#[cfg(test)]
-mod tests;
 
 pub use ends::Opening;
 pub use opening::open_link;

@@ -1,13 +1,14 @@
 // The opening of a link, round by round.
 ghost use Rattle.std.specs.Prelude.{◌≡◌, ◌+◌, ◌<◌, ◌≤◌, ℕ, List, Option, IfNone, MatchOption, length};
+ghost use Rattle.pk_outside.specs.Allowing.{IsFree};
 ghost use Rattle.link_opening.specs.Feeds.{Underway};
 ghost use Rattle.link_opening.specs.Opens.{Opens, ReadFaults, WriteFaults};
 
 use crate::ends::Opening;
 use crate::feeding::feed_bytes;
 use link_handshake::Handshake;
-use message_buffer::{Filled, MessageBuffer};
 use pk_outside::{Sink, Source};
+use source_buffer::{Filled, MessageBuffer};
 
 /// Feeds what the buffer holds, and then reads on.
 fn open_round<I: Source, O: Sink>(
@@ -17,6 +18,7 @@ fn open_round<I: Source, O: Sink>(
     sink: &mut O,
     buffer: &mut MessageBuffer,
 ) -> Option<Opening>
+    requires free { IsFree O.allowed }
     ensures opens { (door : ℕ) (first : List ℕ) (left held : Option (List ℕ)) → Underway door guid first left (I.left source.old) held (O.held sink.old) buffer.old shake.old
         → MatchOption result (Underway door guid first left (I.left source.new) held (O.held sink.new) buffer.new shake.new)
         (λ opening. Opens door guid first left (I.left source.new) (I.ended source.new) held (O.held sink.new) buffer.new opening) }
@@ -59,6 +61,7 @@ pub fn open_link<I: Source, O: Sink>(
     sink: &mut O,
     buffer: &mut MessageBuffer,
 ) -> Opening
+    requires free { IsFree O.allowed }
     // What was read was answered as the definition over all of it says, and that was written.
     ensures opens { Opens door guid buffer.old (I.left source.old) (I.left source.new) (I.ended source.new) (O.held sink.old) (O.held sink.new) buffer.new result }
     // A fault of the outside is told exactly where the object counted it, by its last call.

@@ -1,5 +1,6 @@
 // The run of a connection over a source and a sink.
 ghost use Rattle.std.specs.Prelude.{◌≡◌, ◌≤◌, [], true, IfOk, length};
+ghost use Rattle.pk_outside.specs.Allowing.{IsFree};
 ghost use Rattle.authority_model.specs.Entering.{AreAllowed};
 ghost use Rattle.authority_model.specs.Items.{sent};
 ghost use Rattle.pipe_run.specs.Ends.{Pipes, traffic};
@@ -13,9 +14,9 @@ use crate::served::{CONNECTION, Served};
 use crate::turning::{depart, open, take_message};
 use authority_model::{Limits, Loaded};
 use dbus_values::{Next, awaited, next_message};
-use message_buffer::{Filled, MessageBuffer};
 use pk_outside::{Clock, Salt, Sink, Source, Tree};
 use pk_types::{NoMemory, Text};
+use source_buffer::{Filled, MessageBuffer};
 use std::alloc::Global;
 
 /// How a run ends whose input ended before so many bytes of a message.
@@ -29,6 +30,7 @@ fn end_of_input<C: Clock, S: Salt, O: Sink>(
     requires counted { served.old.sent ≡ sent served.old.past CONNECTION }
     requires waits { awaits_message served.old.past ≡ true }
     requires written { served.old.unsent ≡ [] }
+    requires free { IsFree O.allowed }
     ensures run { EndsInput (standing served.old 0 (supply (C.left clock.old) (C.gave clock.old)) (supply (S.left salt.old) (S.gave salt.old)) (O.held output.old)) (standing served.new 0 (supply (C.left clock.new) (C.gave clock.new)) (supply (S.left salt.new) (S.gave salt.new)) (O.held output.new)) rest result }
     ensures unread { ReadsNothing result }
     ensures write { OutputFaults O.held O.faults output.old output.new result }
@@ -58,6 +60,7 @@ fn serve<T: Tree, C: Clock, S: Salt, I: Source, O: Sink>(
 ) -> PipeEnd
     requires counted { served.old.sent ≡ sent served.old.past CONNECTION }
     requires waits { awaits_message served.old.past ≡ true }
+    requires free { IsFree O.allowed }
     ensures run { Serves (T.told tree.old) root.now (standing served.old (T.faults tree.old) (supply (C.left clock.old) (C.gave clock.old)) (supply (S.left salt.old) (S.gave salt.old)) (O.held output.old)) (standing served.new (T.faults tree.new) (supply (C.left clock.new) (C.gave clock.new)) (supply (S.left salt.new) (S.gave salt.new)) (O.held output.new)) (I.left input.old) (I.left input.new) (I.ended input.new) result }
     ensures read { InputFaults I.left I.faults input.old input.new result }
     ensures write { OutputFaults O.held O.faults output.old output.new result }
@@ -132,6 +135,7 @@ pub fn run_pipe<T: Tree, C: Clock, S: Salt, I: Source, O: Sink>(
     output: &mut O,
 ) -> PipeEnd
     requires limits { AreAllowed limits }
+    requires free { IsFree O.allowed }
 
     // What is written is the messages that the connection is sent in the legal history that the bytes
     // read make, as far as the end says.

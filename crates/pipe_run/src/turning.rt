@@ -1,5 +1,6 @@
 // What is handed in: the beginning, what each message asks, the loads that are asked for, and the end.
 ghost use Rattle.std.specs.Prelude.{◌≡◌, ◌≤◌, ◌^◌, ◌∷◌, [], true, OnOk};
+ghost use Rattle.pk_outside.specs.Allowing.{IsFree};
 ghost use Rattle.authority_model.specs.Items.{sent};
 ghost use Rattle.authority_model.specs.Legal.{Legal};
 ghost use Rattle.dbus_values.specs.Next.{seen};
@@ -28,6 +29,7 @@ pub fn open<C: Clock, S: Salt, O: Sink>(
 ) -> Result<(), Stopped>
     requires counted { served.old.sent ≡ sent served.old.past CONNECTION }
     requires first { served.old.past ≡ [] }
+    requires free { IsFree O.allowed }
     ensures opened { Opens uid first (standing served.old 0 (supply (C.left clock.old) (C.gave clock.old)) (supply (S.left salt.old) (S.gave salt.old)) (O.held output.old)) (standing served.new 0 (supply (C.left clock.new) (C.gave clock.new)) (supply (S.left salt.new) (S.gave salt.new)) (O.held output.new)) result }
     ensures counted { OnOk result (served.new.sent ≡ sent served.new.past CONNECTION) }
     ensures waits { OnOk result (awaits_message served.new.past ≡ true) }
@@ -79,6 +81,7 @@ fn load_again<T: Tree, C: Clock, O: Sink>(
 ) -> Result<(), Stopped>
     requires counted { served.old.sent ≡ sent served.old.past CONNECTION }
     requires asked { awaits_load served.old.past ≡ true }
+    requires free { IsFree O.allowed }
     ensures turned { (salt : Supply) → Turns (T.told tree.old) root.now (standing served.old (T.faults tree.old) (supply (C.left clock.old) (C.gave clock.old)) salt (O.held output.old)) (standing served.new (T.faults tree.new) (supply (C.left clock.new) (C.gave clock.new)) salt (O.held output.new)) [] result }
     ensures counted { OnOk result (served.new.sent ≡ sent served.new.past CONNECTION) }
     ensures waits { OnOk result (awaits_message served.new.past ≡ true) }
@@ -103,6 +106,7 @@ pub fn take_message<T: Tree, C: Clock, S: Salt, O: Sink>(
 ) -> Result<(), Stopped>
     requires counted { served.old.sent ≡ sent served.old.past CONNECTION }
     requires waits { awaits_message served.old.past ≡ true }
+    requires free { IsFree O.allowed }
     ensures turned { Turns (T.told tree.old) root.now (standing served.old (T.faults tree.old) (supply (C.left clock.old) (C.gave clock.old)) (supply (S.left salt.old) (S.gave salt.old)) (O.held output.old)) (standing served.new (T.faults tree.new) (supply (C.left clock.new) (C.gave clock.new)) (supply (S.left salt.new) (S.gave salt.new)) (O.held output.new)) (seen message.now ∷ []) result }
     ensures counted { OnOk result (served.new.sent ≡ sent served.new.past CONNECTION) }
     ensures waits { OnOk result (awaits_message served.new.past ≡ true) }

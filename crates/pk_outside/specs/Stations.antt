@@ -2,6 +2,9 @@
 use Rattle.std.specs.Prelude.{◌≡◌, ◌+◌, ◌++◌, [], ◌∷◌, List, ℕ, Option, None, Some, Bool, nat_lt}
 use Rattle.pk_outside.specs.Links.{Origin, LinkBack, Hung}
 use Rattle.pk_outside.specs.Doors.{DoorTold}
+use Rattle.pk_outside.specs.Files.{FileBack}
+use Rattle.pk_outside.specs.Sightings.{Look}
+use Rattle.pk_outside.specs.declared.sights.Sighted.{Sighted}
 
 -- A door that was shut, with the readings and the words that its clock and its salt gave.
 pub record DoorBack : Type 0 where
@@ -10,8 +13,10 @@ pub record DoorBack : Type 0 where
   pub words : List ℕ
 
 -- For each door that it will make the links that this door gives, each as its bytes; the links that
--- it will dial, each as its bytes; the readings of each clock and the words of each salt that it
--- will make; and the doors that were shut and the links that were hung up, in this order.
+-- it will dial, each as its bytes; the readings of each clock, the words of each salt and the
+-- sightings of all looks at processes that it will make; the doors that were shut and the links that
+-- were hung up, in this order; the paths of the files that it made, and the files that came back, in
+-- this order.
 pub record StationTold : Type 0 where
   pub doors : List (List (List ℕ))
   pub links : List (List ℕ)
@@ -19,6 +24,9 @@ pub record StationTold : Type 0 where
   pub salts : List (List ℕ)
   pub shut : List DoorBack
   pub hung : List Hung
+  pub sights : List (List Sighted)
+  pub made : List (List ℕ)
+  pub filed : List FileBack
 
 -- The first of the lists, or an empty one where there is none.
 abbrev pub first_list : {A : Type 0} → List (List A) → List A
@@ -63,6 +71,29 @@ MakesSalt None (Some after) left gave = ⊥
 MakesSalt (Some before) None left gave = ⊥
 MakesSalt (Some before) (Some after) left gave =
     (left ≡ Some (first_list before.salts)) × (gave ≡ Some []) × (after ≡ record before { salts = other_lists before.salts })
+
+-- Looks at processes were made, with the next sightings, of which none was given.
+abbrev pub MakesSights : Option StationTold → Option StationTold → Option (List Sighted) → Option (List Look) → Type 0
+MakesSights None None left gave = Unit {0}
+MakesSights None (Some after) left gave = ⊥
+MakesSights (Some before) None left gave = ⊥
+MakesSights (Some before) (Some after) left gave =
+    (left ≡ Some (first_list before.sights)) × (gave ≡ Some []) × (after ≡ record before { sights = other_lists before.sights })
+
+-- A file was made at this path, after those before. It tells the path, and that it holds nothing.
+abbrev pub MakesFile : List ℕ → Option StationTold → Option StationTold → Option (List ℕ) → Option (List ℕ) → Type 0
+MakesFile path None None at held = Unit {0}
+MakesFile path None (Some after) at held = ⊥
+MakesFile path (Some before) None at held = ⊥
+MakesFile path (Some before) (Some after) at held =
+    (at ≡ Some path) × (held ≡ Some []) × (after ≡ record before { made = before.made ++ path ∷ [] })
+
+-- A file came back, after those before.
+abbrev pub TakesFile : Option StationTold → Option StationTold → (FileBack → Type 0) → Type 0
+TakesFile None None tells = Unit {0}
+TakesFile None (Some after) tells = ⊥
+TakesFile (Some before) None tells = ⊥
+TakesFile (Some before) (Some after) tells = (back : FileBack) × tells back × (after ≡ record before { filed = before.filed ++ back ∷ [] })
 
 -- A door was shut, behind those before, with what it, its clock and its salt tell.
 abbrev pub Shuts : Option StationTold → Option StationTold → Option DoorTold → Option (List ℕ) → Option (List ℕ) → Type 0

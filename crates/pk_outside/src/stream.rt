@@ -1,9 +1,10 @@
 // Bytes that come and bytes that go.
-ghost use Rattle.std.specs.Prelude.{◌≡◌, ◌+◌, ◌^◌, ◌<◌, ◌≤◌, List, ℕ, Option, None, Bool, IsTrue, length, IfOk, MatchResult, OnOk, OnErr};
+ghost use Rattle.std.specs.Prelude.{◌≡◌, ◌+◌, ◌^◌, ◌<◌, ◌≤◌, List, ℕ, Option, None, Bool, ⊤, IsTrue, length, IfOk, MatchResult, OnOk, OnErr};
 ghost use Rattle.std.specs.Io.{ReadsAtMost};
 ghost use Rattle.pk_outside.specs.Causes.{HasCause, FailsLast};
 ghost use Rattle.pk_outside.specs.Links.{Origin};
 ghost use Rattle.pk_outside.specs.Streams.{ReadGave, WriteGot, Got, GotFront, IsUsedUp};
+ghost use Rattle.pk_outside.specs.Allowing.{MayGo};
 
 /// The object failed, and counted it.
 #[derive(Clone, Copy, Debug, PartialEq, Eq)]
@@ -55,6 +56,12 @@ pub trait Sink: Drop + Send {
     /// The bytes that it got, where they are told.
     ghost held: { Self → Option (List ℕ) };
 
+    /// The rule of the sink: the texts towards which its bytes may go. By default any text.
+    ghost allowed: { List ℕ → Type 0 } = { λ _. ⊤ };
+
+    /// The path at which it was made: told by a file of a station that tells.
+    ghost path: { Self → Option (List ℕ) } = { λ _. None };
+
     /// How often the sink has failed.
     ghost faults: { Self → ℕ };
 
@@ -64,9 +71,11 @@ pub trait Sink: Drop + Send {
     /// `Failed` where the sink failed or takes nothing, and counted one fault; nothing was written. A
     /// call that succeeds leaves the count.
     fn write(&mut self, bytes: &[u8]) -> Result<usize, Failed>
-        requires { 0 < length bytes.now }
+        requires some { 0 < length bytes.now }
+        requires may { MayGo allowed (held self.old) bytes.now }
         ensures bound { IfOk result (λ n. (0 < n) × (n ≤ length bytes.now)) }
         ensures bytes { WriteGot (held self.old) (held self.new) result bytes.now }
+        ensures same { path self.new ≡ path self.old }
         ensures cause { HasCause (faults self.old) (faults self.new) result }
         ensures quiet { OnOk result (faults self.new ≡ faults self.old) };
 }
@@ -77,8 +86,10 @@ pub trait Sink: Drop + Send {
 /// `Failed` where the last write failed and counted one fault; a prefix of the bytes was written,
 /// and no write was made behind it.
 pub fn write_all<O: Sink>(output: &mut O, bytes: &[u8]) -> Result<(), Failed>
+    requires may { MayGo O.allowed (O.held output.old) bytes.now }
     ensures ok { OnOk result (Got (O.held output.old) (O.held output.new) bytes.now) }
     ensures err { OnErr result (GotFront (O.held output.old) (O.held output.new) bytes.now) }
+    ensures same { O.path output.new ≡ O.path output.old }
     ensures cause { HasCause (O.faults output.old) (O.faults output.new) result }
     ensures quiet { OnOk result (O.faults output.new ≡ O.faults output.old) }
     ensures last { OnErr result (FailsLast O.held O.faults output.old output.new) }

@@ -1,5 +1,6 @@
 -- Numbers in decimal digits, without a sign and without a zero in front.
 use Rattle.std.specs.Prelude.{ℕ, ◌==◌, Bool, true, false, not, ◌&&◌, if◌then◌else◌, List, [], ◌∷◌, Option, Some, None, nat_le, ◌+◌, ◌-◌, ◌*◌, option_and_then}
+use Rattle.pk_types.specs.declared.decimals.TheConstants.{MAX_NUMBER}
 
 -- whether nothing stands there
 abbrev pub is_empty : List ℕ → Bool
@@ -23,3 +24,7 @@ at_most greatest n = if nat_le n greatest then Some n else None
 -- the number of a word of digits, where it is at most the greatest
 abbrev pub decimal_up_to : ℕ → List ℕ → Option ℕ
 decimal_up_to greatest word = option_and_then (at_most greatest) (decimal_of word)
+
+-- the number of 32 bits that a word of digits names
+abbrev pub number_of : List ℕ → Option ℕ
+number_of word = decimal_up_to MAX_NUMBER word

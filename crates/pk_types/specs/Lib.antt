@@ -3,3 +3,4 @@ pub mod Decimals
 pub mod Roomy
 pub mod Text
 pub mod Values
+pub mod Pieces

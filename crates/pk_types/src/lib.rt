@@ -1,4 +1,5 @@
-//! Texts, action ids, subjects, identities and implicit values, and the lists that hold them.
+//! Texts, action ids, subjects, identities and implicit values, the lists that hold them, and bytes
+//! cut at a separator: the lines of a file, the words of a line, the parts of a word.
 //!
 //! Every crate of the authority speaks in these types. Contracts see a text as its bytes, an
 //! action id as the bytes of its text, and a list as the list of its items.
@@ -6,16 +7,18 @@
 
 mod action_id;
 mod copies;
+mod cutting;
+mod decimals;
 mod list;
-mod number;
 mod reserved;
 mod text;
 mod values;
 
 pub use action_id::{ActionId, IdFault};
 pub use copies::TryCopy;
+pub use cutting::{cut, lines, pieces};
+pub use decimals::{MAX_NUMBER, number, number_up_to};
 pub use list::{List, NoMemory};
-pub use number::number_up_to;
 pub use reserved::Reserved;
 pub use text::{MAX_TEXT, Text, TextFault, bad_byte};
 pub use values::{Category, Identity, Implicit, Pair, Subject};

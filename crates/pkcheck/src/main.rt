@@ -4,14 +4,16 @@
 //! output on, and tells how it ended.
 #![tactic(auto)]
 
-use check_words::read_words;
-use pk_outside::{Station, WriteSink};
+ghost use Rattle.pk_outside.specs.Allowing.{IsFree};
+
+use client_commands::read_check;
+use command_line::{ProgramTexts, WordsRefused, words};
+use pk_outside::Station;
 use pk_types::Text;
 use pkcheck_tool::{CheckStatus, pkcheck};
-use program_words::{ProgramTexts, WordsRefused, words};
 use rand::make_rng;
 use rand::rngs::StdRng;
-use real_station::SocketStation;
+use real_outside::{SocketStation, WriteSink};
 use std::io;
 use std::process::ExitCode;
 
@@ -43,7 +45,7 @@ dismissed, 126 the reply is an error, 127 usage or a fault of the station, the l
 
 /// Tells on standard error what is wrong with the words.
 fn tell_fault<R: Eprint + AllocGlobal>(rt: &R, words: &[Text]) {
-    let Err(fault) = read_words(rt.alloc(), words) else {
+    let Err(fault) = read_check(rt.alloc(), words) else {
         return;
     };
     if let Ok(fault) = format!(in rt.alloc(); "{fault}") {
@@ -56,7 +58,9 @@ fn check<R: Print + Eprint + AllocGlobal + Sync, N: Station>(
     rt: &R,
     words: &[Text],
     station: &mut N,
-) -> CheckStatus {
+) -> CheckStatus
+    requires free_link { IsFree N.Link.Out.allowed }
+{
     if let Some(text) = TEXTS.asked_by(words) {
         return match print!(rt; "{text}") {
             Ok(()) => CheckStatus::Yes,

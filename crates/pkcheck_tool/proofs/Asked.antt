@@ -8,7 +8,7 @@ use Rattle.pk_outside.specs.Streams.{Gave, Got, IsUsedUp}
 use Rattle.client_link.specs.declared.stop.LinkStop.{LinkStop}
 use Rattle.client_link.specs.declared.stop.LinkStop.TheVariants as stop
 use Rattle.client_link.specs.Faults.{LinkFaults, OneFailed}
-use Rattle.check_words.specs.declared.reading.CheckPlan.{CheckPlan}
+use Rattle.client_commands.specs.declared.check.reading.CheckPlan.{CheckPlan}
 use Rattle.pkcheck_tool.specs.declared.reply.Reply.{Reply}
 use Rattle.pkcheck_tool.specs.declared.status.CheckStatus.{CheckStatus}
 use Rattle.pkcheck_tool.specs.Asking.{Converses, Says, sent_bytes}

@@ -14,8 +14,8 @@ use Rattle.client_link.specs.Following.{IsFirst, Passes}
 use Rattle.client_link.specs.Shakings.{BeginsIn, FailsIn}
 use Rattle.client_link.proofs.Firsts.{first_more, none_bad, none_first, none_partial, one_first}
 use Rattle.client_link.proofs.Follows.{passes_bytes}
-use Rattle.check_words.specs.declared.reading.CheckPlan.{CheckPlan}
-use Rattle.check_words.specs.Plans.{plan_of}
+use Rattle.client_commands.specs.declared.check.reading.CheckPlan.{CheckPlan}
+use Rattle.client_commands.specs.CheckPlans.{plan_of}
 use Rattle.pkcheck_tool.specs.declared.reply.Reply.{Reply}
 use Rattle.pkcheck_tool.specs.declared.status.CheckStatus.{CheckStatus}
 use Rattle.pkcheck_tool.specs.declared.status.CheckStatus.TheVariants as status

@@ -19,7 +19,7 @@ use Rattle.client_link.specs.Messages.{Brings, IsTaken}
 use Rattle.client_link.specs.Sending.{Sends}
 use Rattle.client_link.specs.Shakings.{BeginsIn, Shakes, ShakesHands, client_bytes}
 use Rattle.client_link.proofs.Follows.{passes_bytes, passes_message}
-use Rattle.check_words.specs.declared.reading.CheckPlan.{CheckPlan}
+use Rattle.client_commands.specs.declared.check.reading.CheckPlan.{CheckPlan}
 use Rattle.pkcheck_tool.specs.declared.asking.TheConstants.{SERIAL}
 use Rattle.pkcheck_tool.specs.declared.reply.Reply.{Reply}
 use Rattle.pkcheck_tool.specs.Asking.{Accepted, Awaits, Converses, Lacks, Replies, Says, check_bytes, sent_bytes}

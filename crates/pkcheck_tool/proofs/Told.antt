@@ -2,8 +2,8 @@
 use Rattle.std.proofs.Common.{◌≡◌, ◌⊎◌, ℕ, Bool, true, false, List, [], ◌++◌, Option, Some, None, refl, sym, ap, ◌∙◌, inl, inr, append-nil, cond}
 use Rattle.pk_types.specs.declared.values.Pair.{Pair}
 use Rattle.client_link.specs.Following.{IsFront}
-use Rattle.check_words.specs.declared.reading.CheckPlan.{CheckPlan}
-use Rattle.check_words.specs.Plans.{plan_of}
+use Rattle.client_commands.specs.declared.check.reading.CheckPlan.{CheckPlan}
+use Rattle.client_commands.specs.CheckPlans.{plan_of}
 use Rattle.pkcheck_tool.specs.declared.reply.Reply.{Reply}
 use Rattle.pkcheck_tool.specs.declared.reply.Reply.TheVariants as reply
 use Rattle.pkcheck_tool.specs.declared.reply.TheConstants.{DISMISSED}

@@ -15,7 +15,7 @@ use Rattle.client_link.specs.declared.stop.LinkStop.{LinkStop}
 use Rattle.client_link.specs.declared.stop.LinkStop.TheVariants as stop
 use Rattle.client_link.specs.Following.{IsFirst, IsFront, Passes}
 use Rattle.client_link.specs.Shakings.{BeginsIn, FailsIn, client_bytes}
-use Rattle.check_words.specs.declared.reading.CheckPlan.{CheckPlan}
+use Rattle.client_commands.specs.declared.check.reading.CheckPlan.{CheckPlan}
 use Rattle.pkcheck_tool.specs.declared.asking.TheConstants.{SERIAL}
 use Rattle.pkcheck_tool.specs.declared.reply.Reply.{Reply}
 use Rattle.pkcheck_tool.specs.Replies.{is_reply, reply_in}

@@ -9,8 +9,8 @@ use Rattle.link_handshake.specs.Shakes.{Begun}
 use Rattle.client_link.specs.declared.stop.LinkStop.TheVariants as stop
 use Rattle.client_link.specs.Faults.{OneFailed}
 use Rattle.client_link.specs.Following.{IsFront}
-use Rattle.check_words.specs.declared.reading.CheckPlan.{CheckPlan}
-use Rattle.check_words.specs.Plans.{plan_of}
+use Rattle.client_commands.specs.declared.check.reading.CheckPlan.{CheckPlan}
+use Rattle.client_commands.specs.CheckPlans.{plan_of}
 use Rattle.pkcheck_tool.specs.declared.reply.Reply.{Reply}
 use Rattle.pkcheck_tool.specs.declared.status.CheckStatus.{CheckStatus}
 use Rattle.pkcheck_tool.specs.declared.status.CheckStatus.TheVariants as status

@@ -1,5 +1,6 @@
 // The conversation with the server: the handshake, one call, and messages until the reply.
 ghost use Rattle.std.specs.Prelude.{◌≡◌, ◌++◌, ℕ, List, IfOk, IsTrue, false};
+ghost use Rattle.pk_outside.specs.Allowing.{IsFree};
 ghost use Rattle.pk_outside.specs.Streams.{Gave, IsUsedUp};
 ghost use Rattle.authority_messages.specs.Messages.{is_over};
 ghost use Rattle.client_messages.specs.Calls.{call_for};
@@ -9,11 +10,11 @@ ghost use Rattle.pkcheck_tool.specs.Asking.{Awaits, Converses, check_bytes, chec
 
 use crate::reply::{Reply, reply_of};
 use authority_model::{ALLOW_USER_INTERACTION, Call};
-use check_words::CheckPlan;
+use client_commands::CheckPlan;
 use client_link::{LinkStop, next_answer, send_call, shake_hands};
-use message_buffer::MessageBuffer;
 use pk_outside::{Sink, Source};
 use pk_types::{List, NoMemory, Subject, Text};
+use source_buffer::MessageBuffer;
 use std::alloc::Global;
 
 /// The serial of the one call.
@@ -49,6 +50,7 @@ fn check_call(
 
 /// Sends the call that a plan asks.
 fn send_check<O: Sink>(alloc: Global, plan: &CheckPlan, sink: &mut O) -> Result<(), LinkStop>
+    requires free { IsFree O.allowed }
     ensures sends { Sends (O.held sink.old) (O.held sink.new) (check_bytes plan.now) result }
     ensures faults { O.faults sink.new ≡ faults_after (O.faults sink.old) result }
 {
@@ -81,6 +83,7 @@ pub fn converse<I: Source, O: Sink>(
     source: &mut I,
     sink: &mut O,
 ) -> Result<Reply, LinkStop>
+    requires free { IsFree O.allowed }
     ensures converses { Converses plan.now (I.left source.old) (I.left source.new) (I.ended source.new) (O.held sink.old) (O.held sink.new) result }
     ensures faults { LinkFaults (I.faults source.old) (I.faults source.new) (O.faults sink.old) (O.faults sink.new) result }
     ensures same { I.origin source.new ≡ I.origin source.old }

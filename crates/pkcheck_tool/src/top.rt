@@ -1,18 +1,20 @@
 // A check from its words to its status.
 ghost use Rattle.std.specs.Prelude.{◌≡◌, ◌≤◌};
+ghost use Rattle.pk_outside.specs.Allowing.{IsFree};
 ghost use Rattle.pkcheck_tool.specs.Checks.{Asks, Checked, Checks, Completes, Tells, outside};
 
 use crate::asking::converse;
 use crate::reply::Reply;
 use crate::status::{CheckStatus, status_of};
 use crate::telling::lines_of;
-use check_words::{CheckPlan, WordsFault, read_words};
+use client_commands::{CheckPlan, WordsFault, read_check};
 use pk_outside::{Failed, Link, Sink, Station, StationRefused, write_all};
 use pk_types::{NoMemory, Text};
 use std::alloc::Global;
 
 /// Dials the door of the plan, asks the check, and hangs up, after a fault too.
 fn ask<N: Station>(alloc: Global, plan: &CheckPlan, station: &mut N) -> Result<Reply, CheckStatus>
+    requires free_link { IsFree N.Link.Out.allowed }
     ensures asks { Asks plan.now (N.told station.old) (N.told station.new) (N.faults station.old) (N.faults station.new) result }
     ensures later { N.faults station.old ≤ N.faults station.new }
 {
@@ -31,7 +33,9 @@ fn ask<N: Station>(alloc: Global, plan: &CheckPlan, station: &mut N) -> Result<R
 }
 
 /// Writes what a reply tells, and answers its status.
+#[tactic(auto, using(pk_outside::proofs::Going::may_go_free))]
 fn tell<O: Sink>(alloc: Global, reply: &Reply, output: &mut O) -> CheckStatus
+    requires free { IsFree O.allowed }
     ensures tells { Tells reply.now (O.held output.old) (O.held output.new) (O.faults output.old) (O.faults output.new) result }
 {
     let lines = match lines_of(alloc, reply) {
@@ -51,6 +55,8 @@ fn check<N: Station, O: Sink>(
     station: &mut N,
     output: &mut O,
 ) -> CheckStatus
+    requires free { IsFree O.allowed }
+    requires free_link { IsFree N.Link.Out.allowed }
     ensures checked { Checked plan.now (outside (N.told station.old) (N.told station.new) (N.faults station.old) (N.faults station.new) (O.held output.old) (O.held output.new) (O.faults output.old) (O.faults output.new)) result }
     ensures later { N.faults station.old ≤ N.faults station.new }
 {
@@ -80,18 +86,18 @@ pub fn pkcheck<N: Station, O: Sink>(
     station: &mut N,
     output: &mut O,
 ) -> CheckStatus
+    requires free { IsFree O.allowed }
+    requires free_link { IsFree N.Link.Out.allowed }
     // What was read and written, and what the status says of it.
     ensures checks { Checks words.now (outside (N.told station.old) (N.told station.new) (N.faults station.old) (N.faults station.new) (O.held output.old) (O.held output.new) (O.faults output.old) (O.faults output.new)) result }
     // What has to come where nothing fails.
     ensures complete { Completes words.now (outside (N.told station.old) (N.told station.new) (N.faults station.old) (N.faults station.new) (O.held output.old) (O.held output.new) (O.faults output.old) (O.faults output.new)) result }
     ensures later { N.faults station.old ≤ N.faults station.new }
 {
-    match read_words(alloc, words) {
+    match read_check(alloc, words) {
         Ok(plan) => check(alloc, &plan, station, output),
         Err(WordsFault::NoMemory) => CheckStatus::NoMemory,
         Err(WordsFault::Command(_)) => CheckStatus::Usage,
-        Err(WordsFault::Door) => CheckStatus::Usage,
-        Err(WordsFault::Action) => CheckStatus::Usage,
-        Err(WordsFault::Process) => CheckStatus::Usage,
+        Err(WordsFault::Value { .. }) => CheckStatus::Usage,
     }
 }

@@ -52,7 +52,7 @@ same_first R o same x y xs ys sums up other =
     let second : is_lt (R y x) ≡ false = not_counted (is_lt (R y x)) (first_zero (λ p. flag (is_lt (R p x))) y ys (sym (sums (λ p. flag (is_lt (R p x)))) ∙ no_less R o x xs up)) in
     same x y (tied R o x y first second)
 
-sorted_rest : {X : Type 0} (R : X → X → Ordering) (x : X) (xs : List X) → IsSorted R (x ∷ xs) → IsSorted R xs
+pub sorted_rest : {X : Type 0} (R : X → X → Ordering) (x : X) (xs : List X) → IsSorted R (x ∷ xs) → IsSorted R xs
 sorted_rest R x xs up = λ k d low high.
     let at : is_lt (R (get_or (x ∷ xs) (suc k + 1) d) (get_or xs k d)) ≡ false = up (suc k) d (omega arith) (omega arith) in
     subst (λ n. is_lt (R (get_or xs n d) (get_or xs k d)) ≡ false) (sym (add-one k))

@@ -1,7 +1,7 @@
 -- The parts of a text that is cut at `=` (61).
 use Rattle.std.proofs.Common.{◌≡◌, ℕ, ◌+◌, ◌≤◌, ◌==◌, false, List, ◌∷◌, ◌++◌, length, Some, None, ap, sym, ◌∙◌, arith, length-append}
 use Rattle.std.specs.Prelude.{if◌then◌else◌, option_and_then}
-use Rattle.byte_pieces.specs.Pieces.{Lacks, IsCut}
+use Rattle.pk_types.specs.Pieces.{Lacks, IsCut}
 use Rattle.pk_types.specs.Text.{IsText}
 use Rattle.pk_types.specs.declared.values.Pair.{Pair}
 use Rattle.keyfile_text.proofs.Cleans.{clean-cut, text_is, text_of_clean}

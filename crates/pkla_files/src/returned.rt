@@ -5,9 +5,8 @@ ghost use Rattle.pkla_files.specs.Faults.{IsDueKind, return_fault};
 ghost use Rattle.pkla_files.specs.Returned.{is_other_escape, escapes_other, is_no_pair, pair_of, pairs_of};
 
 use crate::fault::PklaFaultKind;
-use byte_pieces::cut;
 use keyfile_text::items;
-use pk_types::{Pair, PairList, Text};
+use pk_types::{Pair, PairList, Text, cut};
 use std::alloc::Global;
 
 /// Whether a byte after a `\` makes an escape other than `\;`.

@@ -16,17 +16,17 @@ use Rattle.pkla_files.specs.declared.fault.PklaFault.{PklaFault}
 use Rattle.admin_identities.specs.Configured.{configured, faulty_place, file_fault, fault_from, first_fault}
 use Rattle.admin_identities.specs.declared.fault.AdminFault.{AdminFault}
 use Rattle.admin_identities.specs.declared.fault.AdminFault.TheVariants as admin
-use Rattle.policy_files.specs.Findings.{actions_found, admins_found, admins_found_in, entries_found, entries_found_in, found_in}
-use Rattle.policy_files.specs.Joins.{has_id, with_action, with_actions, with_finding, with_findings, nothing_joined, again, with_fault}
-use Rattle.policy_files.specs.Kept.{found_with}
-use Rattle.policy_files.specs.declared.finding.Finding.{Finding}
-use Rattle.policy_files.specs.declared.finding.Finding.TheVariants as finding
-use Rattle.policy_files.specs.declared.joined.Joined.{Joined}
-use Rattle.policy_files.specs.declared.reading.TurnFile.{TurnFile}
-use Rattle.policy_turns.specs.declared.turn.FileKind.{FileKind}
-use Rattle.policy_turns.specs.declared.turn.FileKind.TheVariants as kind
-use Rattle.policy_turns.specs.declared.turn.Turn.{Turn}
-use Rattle.policy_turns.specs.declared.turn.Turn.TheVariants as turn
+use Rattle.policy_load.specs.Findings.{actions_found, admins_found, admins_found_in, entries_found, entries_found_in, found_in}
+use Rattle.policy_load.specs.Joins.{has_id, with_action, with_actions, with_finding, with_findings, nothing_joined, again, with_fault}
+use Rattle.policy_load.specs.Kept.{found_with}
+use Rattle.policy_load.specs.declared.files.finding.Finding.{Finding}
+use Rattle.policy_load.specs.declared.files.finding.Finding.TheVariants as finding
+use Rattle.policy_load.specs.declared.files.joined.Joined.{Joined}
+use Rattle.policy_load.specs.declared.files.reading.TurnFile.{TurnFile}
+use Rattle.policy_load.specs.declared.order.turn.FileKind.{FileKind}
+use Rattle.policy_load.specs.declared.order.turn.FileKind.TheVariants as kind
+use Rattle.policy_load.specs.declared.order.turn.Turn.{Turn}
+use Rattle.policy_load.specs.declared.order.turn.Turn.TheVariants as turn
 use Rattle.policy_load.specs.Loads.{joined}
 
 map_none : {A B : Type 0} (f : A → B) (o : Option A) → option_map f o ≡ None → o ≡ None

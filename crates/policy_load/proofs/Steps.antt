@@ -11,13 +11,13 @@ use Rattle.authority_model.specs.declared.load.Loaded.{Loaded}
 use Rattle.table_files.specs.Faults.{IsDueFault}
 use Rattle.table_files.specs.declared.fault.TableFault.{TableFault}
 use Rattle.table_files.specs.declared.fault.TableFault.TheVariants as fault
-use Rattle.policy_files.specs.Findings.{found_at}
-use Rattle.policy_files.specs.Joins.{file_count, byte_count}
-use Rattle.policy_files.specs.Kept.{turn_file, found_with}
-use Rattle.policy_turns.specs.Turns.{all_turns}
-use Rattle.policy_files.specs.declared.finding.Finding.{Finding}
-use Rattle.policy_files.specs.declared.reading.TurnFile.{TurnFile}
-use Rattle.policy_turns.specs.declared.turn.Turn.{Turn}
+use Rattle.policy_load.specs.Findings.{found_at}
+use Rattle.policy_load.specs.Joins.{file_count, byte_count}
+use Rattle.policy_load.specs.Kept.{turn_file, found_with}
+use Rattle.policy_load.specs.Turns.{all_turns}
+use Rattle.policy_load.specs.declared.files.finding.Finding.{Finding}
+use Rattle.policy_load.specs.declared.files.reading.TurnFile.{TurnFile}
+use Rattle.policy_load.specs.declared.order.turn.Turn.{Turn}
 use Rattle.policy_load.specs.Causes.{LoadsAs, FaultCause, IsBadTable, Gathers, refusal_of}
 use Rattle.policy_load.specs.Loads.{◌>>=◌, of_table, within, joined, load_joined, load_of}
 use Rattle.policy_load.specs.declared.refused.LoadLimit.{LoadLimit}

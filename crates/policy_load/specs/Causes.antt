@@ -7,8 +7,8 @@ use Rattle.pk_outside.specs.declared.tree.TreeRefused.TheVariants as tree_refuse
 use Rattle.authority_model.specs.Words.{Bytes}
 use Rattle.table_files.specs.declared.fault.TableFault.{TableFault}
 use Rattle.table_files.specs.declared.fault.TableFault.TheVariants as fault
-use Rattle.policy_files.specs.Kept.{found_with}
-use Rattle.policy_files.specs.declared.reading.ReadFiles.{ReadFiles}
+use Rattle.policy_load.specs.Kept.{found_with}
+use Rattle.policy_load.specs.declared.files.reading.ReadFiles.{ReadFiles}
 use Rattle.policy_load.specs.declared.refused.LoadRefused.{LoadRefused}
 use Rattle.policy_load.specs.declared.refused.LoadRefused.TheVariants as refused
 use Rattle.policy_load.specs.Loads.{load_of, load_joined, joined}

@@ -1,3 +1,9 @@
+pub mod Paths
+pub mod Orders
+pub mod Turns
+pub mod Findings
+pub mod Joins
+pub mod Kept
 pub mod Loads
 pub mod Causes
 pub mod Codes

@@ -18,14 +18,14 @@ use Rattle.table_files.specs.Users.{users_of}
 use Rattle.table_files.specs.declared.fault.TableFault.{TableFault}
 use Rattle.table_files.specs.declared.fault.TableFault.TheVariants as fault
 use Rattle.table_files.specs.declared.limits.TheConstants.{MAX_FILE}
-use Rattle.policy_turns.specs.Paths.{below, bytes_at}
-use Rattle.policy_turns.specs.Turns.{all_turns}
-use Rattle.policy_files.specs.Findings.{found_at}
-use Rattle.policy_files.specs.Joins.{nothing_joined, with_findings, file_count, byte_count}
-use Rattle.policy_files.specs.declared.finding.Finding.{Finding}
-use Rattle.policy_files.specs.declared.joined.Joined.{Joined}
-use Rattle.policy_files.specs.declared.reading.TheConstants.{MAX_FILES, MAX_POLICY_BYTES}
-use Rattle.policy_turns.specs.declared.turn.Turn.{Turn}
+use Rattle.policy_load.specs.Paths.{below, bytes_at}
+use Rattle.policy_load.specs.Turns.{all_turns}
+use Rattle.policy_load.specs.Findings.{found_at}
+use Rattle.policy_load.specs.Joins.{nothing_joined, with_findings, file_count, byte_count}
+use Rattle.policy_load.specs.declared.files.finding.Finding.{Finding}
+use Rattle.policy_load.specs.declared.files.joined.Joined.{Joined}
+use Rattle.policy_load.specs.declared.files.reading.TheConstants.{MAX_FILES, MAX_POLICY_BYTES}
+use Rattle.policy_load.specs.declared.order.turn.Turn.{Turn}
 use Rattle.policy_load.specs.declared.refused.LoadLimit.{LoadLimit}
 use Rattle.policy_load.specs.declared.refused.LoadLimit.TheVariants as which
 use Rattle.policy_load.specs.declared.refused.LoadRefused.{LoadRefused}

@@ -1,16 +1,16 @@
 // The load of a tree by several threads.
 ghost use Rattle.std.specs.Prelude.{◌≡◌, ◌≤◌, map, IfErr, IfOk, IfSome};
-ghost use Rattle.policy_files.specs.Kept.{found_with};
+ghost use Rattle.policy_load.specs.Kept.{found_with};
 ghost use Rattle.policy_load.specs.Causes.{LoadsAs, FaultCause};
 ghost use Rattle.policy_load.specs.Loads.{load_of};
 ghost use denote.Param.Send.{IsSync};
 
+use crate::files::{Finding, TurnFile, find_each};
 use crate::loading::{finish, gather};
 use crate::refused::LoadRefused;
 use authority_model::Loaded;
 use pk_outside::Tree;
 use pk_types::{NoMemory, Text};
-use policy_files::{Finding, TurnFile, find_each};
 use std::alloc::Global;
 use std::thread::{Threads, available_parallelism, join};
 

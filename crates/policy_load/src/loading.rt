@@ -5,7 +5,12 @@ ghost use Rattle.admin_identities.specs.Configured.{first_fault, admins_of};
 ghost use Rattle.policy_load.specs.Causes.{LoadsAs, FaultCause, LoadCause, Gathers};
 ghost use Rattle.policy_load.specs.Loads.{load_of, load_joined, loaded_from, joined};
 
+use crate::files::{
+    Finding, Joined, MAX_FILES, MAX_POLICY_BYTES, ReadFiles, file_count, find_each, join,
+    read_files,
+};
 use crate::limits::{MAX_ACTIONS, MAX_RULES};
+use crate::order::turns;
 use crate::refused::{LoadLimit, LoadRefused};
 use crate::tables::{refused_by, world};
 use admin_identities::{AdminFault, admins};
@@ -13,11 +18,6 @@ use authority_model::{Loaded, Policy, World};
 use keyfile_text::GroupsList;
 use pk_outside::Tree;
 use pk_types::{NoMemory, Text, TextList};
-use policy_files::{
-    Finding, Joined, MAX_FILES, MAX_POLICY_BYTES, ReadFiles, file_count, find_each, join,
-    read_files,
-};
-use policy_turns::turns;
 use std::alloc::Global;
 
 /// The turns of a load with their files, unless there are too many files or bytes.

@@ -5,11 +5,11 @@ ghost use Rattle.pk_outside.specs.Trees.{TreeTold};
 ghost use Rattle.policy_load.specs.Causes.{LoadsAs, LoadCause, IsBadTable, refusal_of};
 ghost use Rattle.policy_load.specs.Loads.{table, users_in, groups_in, sessions_in, processes_in, world_in};
 
+use crate::order::{below, read_at};
 use crate::refused::LoadRefused;
 use authority_model::{GroupList, ProcessList, SessionList, UserList, World};
 use pk_outside::{FileBytes, Tree, TreeRefused};
 use pk_types::{ByteList, Text, TextFault};
-use policy_turns::{below, read_at};
 use std::alloc::Global;
 use table_files::{MAX_FILE, TableFault, read_group, read_passwd, read_processes, read_sessions};
 

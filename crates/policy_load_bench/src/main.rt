@@ -3,9 +3,10 @@
 #![tactic(auto)]
 
 use authority_model::Loaded;
-use pk_outside::{DirTree, Tree};
+use pk_outside::Tree;
 use pk_types::Text;
 use policy_load::{LoadRefused, load, load_beside};
+use real_outside::DirTree;
 use std::rt::{Clock, Env};
 use std::thread::Threads;
 use std::time::Instant;

@@ -4,13 +4,15 @@
 //! standard output on, and tells how it ended.
 #![tactic(auto)]
 
-use agent_words::{WordsFault, read_words};
-use pk_outside::{DirTree, Station, Tree, WriteSink};
+ghost use Rattle.pk_outside.specs.Allowing.{IsFree};
+
+use client_commands::read_agent;
+use command_line::{ProgramTexts, WordsRefused, words};
+use pk_outside::{Station, Tree};
 use pk_types::Text;
-use program_words::{ProgramTexts, WordsRefused, words};
 use rand::make_rng;
 use rand::rngs::StdRng;
-use real_station::SocketStation;
+use real_outside::{DirTree, SocketStation, WriteSink};
 use script_agent::{AgentStatus, script_agent};
 use std::io;
 use std::process::ExitCode;
@@ -49,14 +51,11 @@ told on standard error.
 
 /// Tells on standard error what is wrong with the words.
 fn tell_fault<R: Eprint + AllocGlobal>(rt: &R, words: &[Text]) {
-    match read_words(rt.alloc(), words) {
-        Err(WordsFault::Command(fault)) => {
-            if let Ok(fault) = format!(in rt.alloc(); "{fault}") {
-                TEXTS.tell_usage(rt, fault.as_str());
-            }
-        }
-        Err(WordsFault::Value) => TEXTS.tell_usage(rt, "error: a value does not have its form"),
-        Err(WordsFault::NoMemory) | Ok(_) => {}
+    let Err(fault) = read_agent(rt.alloc(), words) else {
+        return;
+    };
+    if let Ok(fault) = format!(in rt.alloc(); "{fault}") {
+        TEXTS.tell_usage(rt, fault.as_str());
     }
 }
 
@@ -66,7 +65,9 @@ fn answer<R: Print + Eprint + AllocGlobal + Sync, T: Tree, N: Station>(
     words: &[Text],
     tree: &mut T,
     station: &mut N,
-) -> AgentStatus {
+) -> AgentStatus
+    requires free_link { IsFree N.Link.Out.allowed }
+{
     if let Some(text) = TEXTS.asked_by(words) {
         return match print!(rt; "{text}") {
             Ok(()) => AgentStatus::Done,

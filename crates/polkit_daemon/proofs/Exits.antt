@@ -2,10 +2,10 @@
 use Rattle.std.proofs.Common.{◌≡◌, ◌++◌, [], ◌∷◌, ◌+◌, List, ℕ, Bool, Option, None, Result, Err, refl, sym, ◌∙◌, ap, subst, length, arith, append_assoc, append-nil, length-append, inl, inr}
 use Rattle.pk_outside.specs.Streams.{Gave, Got}
 use Rattle.pk_outside.proofs.Written.{Gave-none, Gave-more, Got-none, Got-more}
-use Rattle.byte_pieces.specs.Pieces.{lines_of}
-use Rattle.byte_pieces.proofs.Cuts.{lines_of-cut, lines_of-last}
-use Rattle.line_reader.specs.Reading.{Takes}
-use Rattle.line_reader.specs.declared.reader.LineRead.TheVariants as line_read
+use Rattle.pk_types.specs.Pieces.{lines_of}
+use Rattle.pk_types.proofs.Cuts.{lines_of-cut, lines_of-last}
+use Rattle.source_buffer.specs.Reading.{Takes}
+use Rattle.source_buffer.specs.declared.lines.LineRead.TheVariants as line_read
 use Rattle.authority_model.specs.declared.journal.Item.{Item}
 use Rattle.authority_model.specs.Legal.{Legal}
 use Rattle.authority_laws.proofs.Tracing.{access}

@@ -3,8 +3,8 @@ use Rattle.std.proofs.Common.{◌≡◌, ◌++◌, [], ◌∷◌, ◌+◌, ◌<�
 use Rattle.std.proofs.lemmas.Grind.{flat_map-append}
 use Rattle.std.proofs.lemmas.Bool.{ne_eqb}
 use Rattle.std.proofs.lemmas.Bool.Decides.{nat_tests}
-use Rattle.byte_pieces.specs.Pieces.{Lacks, lines_of, onto_first}
-use Rattle.byte_pieces.proofs.Cuts.{lines_of-cut}
+use Rattle.pk_types.specs.Pieces.{Lacks, lines_of, onto_first}
+use Rattle.pk_types.proofs.Cuts.{lines_of-cut}
 use Rattle.scenario_text.specs.declared.fault.LineKind.{LineKind}
 use Rattle.scenario_text.specs.declared.fault.LineKind.TheVariants as kind
 use Rattle.scenario_text.specs.Lines.{step_of}

@@ -2,13 +2,13 @@
 use Rattle.std.specs.Prelude.{◌≡◌, ◌≤◌, is_some, true, List, [], ◌∷◌, Option, Some, None, codes, if◌then◌else◌, option_and_then, option_map, ℕ}
 use Rattle.std.specs.Option.{option_copied}
 use Rattle.std.specs.Str.{bytes_eq}
-use Rattle.pk_types.specs.Decimals.{decimal_up_to}
+use Rattle.pk_types.specs.Decimals.{number_of}
 use Rattle.authority_model.specs.declared.journal.Limits.{Limits}
 use Rattle.authority_model.specs.declared.journal.TheConstants.{MAX_BYTES, MAX_ENTRIES}
 use Rattle.serve_words.specs.Plans.{entries_in, is_root, plan_in, positive_up_to}
 use Rattle.polkit_daemon.specs.declared.command.Command.{Command}
 use Rattle.polkit_daemon.specs.declared.command.Command.TheVariants as command
-use Rattle.polkit_daemon.specs.declared.command.TheConstants.{MAX_CHECKS, MAX_UID}
+use Rattle.polkit_daemon.specs.declared.command.TheConstants.{MAX_CHECKS}
 
 -- A command: a replay with its root and its limit of entries, a pipe with the user of its connection, its root and its limit of entries, a service by the words that name its plan, or a generated run of so many checks.
 pub data Named : Type 0 where
@@ -39,7 +39,7 @@ pipe_from root uid entries = if is_root root then option_map (Named.Pipe uid roo
 
 -- the pipe that the words after `pipe` name
 abbrev pub pipe_in : List (List ℕ) → Option Named
-pipe_in (uid ∷ option ∷ root ∷ words) = if bytes_eq option (codes "--root") then option_and_then (λ u. pipe_from root u (entries_in words)) (decimal_up_to MAX_UID uid) else None
+pipe_in (uid ∷ option ∷ root ∷ words) = if bytes_eq option (codes "--root") then option_and_then (λ u. pipe_from root u (entries_in words)) (number_of uid) else None
 pipe_in other = None
 
 -- the generated run that the words after `load` name

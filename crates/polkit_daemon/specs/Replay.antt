@@ -2,7 +2,7 @@
 use Rattle.std.specs.Prelude.{◌≡◌, ℕ, ◌+◌, ◌⊎◌, Bool, IsTrue, List, [], ◌∷◌, ◌++◌, Option, None, Some, Result, Ok, Err}
 use Rattle.std.specs.List.{flat_map}
 use Rattle.pk_outside.specs.Streams.{Gave, Got}
-use Rattle.byte_pieces.specs.Pieces.{Lacks, lines_of}
+use Rattle.pk_types.specs.Pieces.{Lacks, lines_of}
 use Rattle.authority_model.specs.declared.journal.Item.{Item}
 use Rattle.authority_model.specs.Legal.{Legal}
 use Rattle.authority_model.specs.Licensed.{AllLicensed}

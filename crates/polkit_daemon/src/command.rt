@@ -3,14 +3,11 @@ ghost use Rattle.std.specs.Prelude.{◌≡◌, ◌≤◌, IfSome};
 ghost use Rattle.std.specs.Option.{option_copied, option_map};
 ghost use Rattle.polkit_daemon.specs.Commands.{command_of, command_seen, load_in, pipe_in, replay_in, serve_in, IsInRange};
 
-use pk_types::{Text, number_up_to};
+use pk_types::{Text, number};
 use serve_words::{entries_in, is_plan, is_root, positive};
 
 /// The greatest number of checks of a generated run.
 const MAX_CHECKS: u64 = 100_000;
-
-/// The greatest uid.
-const MAX_UID: u64 = 4_294_967_295;
 
 /// A command of the daemon.
 #[derive(Clone, Copy)]
@@ -74,16 +71,12 @@ fn pipe_in(words: &[Text]) -> Option<Command<'_>>
 {
     match words {
         [uid, option, root, rest @ ..] if option.bytes() == b"--root".as_slice() => {
-            let uid = number_up_to(uid.bytes(), MAX_UID)?;
+            let uid = number(uid.bytes())?;
             if !is_root(root) {
                 return None;
             }
             let entries = entries_in(rest)?;
-            Some(Command::Pipe {
-                uid: uid as u32,
-                root,
-                entries,
-            })
+            Some(Command::Pipe { uid, root, entries })
         }
         _ => None,
     }

@@ -1,5 +1,6 @@
 // The command that serves one connection over the input and the output.
 ghost use Rattle.std.specs.Prelude.{◌≡◌};
+ghost use Rattle.pk_outside.specs.Allowing.{IsFree};
 ghost use Rattle.authority_model.specs.Entering.{AreAllowed};
 ghost use Rattle.pipe_run.specs.Ends.{traffic};
 ghost use Rattle.pipe_run.specs.Supplies.{supply};
@@ -59,6 +60,7 @@ pub fn pipe<T: Tree, C: Clock, S: Salt, I: Source, O: Sink>(
     output: &mut O,
 ) -> Status
     requires limits { AreAllowed limits }
+    requires free { IsFree O.allowed }
 
     // What is written is the messages that the connection is sent in the legal history that the bytes
     // read make, as far as the status says.

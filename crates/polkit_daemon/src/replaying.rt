@@ -1,5 +1,6 @@
 // The command that replays a scenario.
 ghost use Rattle.std.specs.Prelude.{◌≡◌, ◌≤◌, [], IfOk, OnOk};
+ghost use Rattle.pk_outside.specs.Allowing.{IsFree};
 ghost use Rattle.authority_model.specs.Items.{empty_loaded, sent};
 ghost use Rattle.authority_model.specs.Legal.{Legal};
 ghost use Rattle.polkit_daemon.specs.Counted.{counted};
@@ -15,11 +16,11 @@ use crate::written::{WriteRefused, write_answers};
 use authority_core::Limits;
 use authority_model::Loaded;
 use journal_state::SentCounts;
-use line_reader::{LineRead, LineReader};
 use pk_outside::{Sink, Source, Tree};
 use pk_types::{NoMemory, Text};
 use scenario_run::{LineEffect, LineStop, ScenarioRun};
 use scenario_text::{LineFault, LineKind, MAX_LINE};
+use source_buffer::{LineRead, LineReader};
 use std::alloc::Global;
 
 /// Why a run stopped at a line.
@@ -70,6 +71,7 @@ fn write_last<O: Sink>(
     counts: &mut SentCounts,
     output: &mut O,
 ) -> Result<(), Stopped>
+    requires free { IsFree O.allowed }
     ensures written { LastWritten scenario.now.past (counted counts.old) (counted counts.new) (O.held output.old) (O.held output.new) result }
     ensures legal { Legal scenario.now.past }
     ensures faults { LineWrites O.held O.faults output.old output.new result }
@@ -99,6 +101,7 @@ fn answer<O: Sink>(
 ) -> Result<(), Stopped>
     requires counted { counted counts.old ≡ sent scenario.old.past }
     requires legal { Legal scenario.old.past }
+    requires free { IsFree O.allowed }
     ensures counted { OnOk result (counted counts.new ≡ sent scenario.new.past) }
     ensures done { LineDone scenario.old line.now scenario.new (O.held output.old) (O.held output.new) result }
     ensures faults { LineWrites O.held O.faults output.old output.new result }
@@ -145,6 +148,7 @@ impl Playback {
     /// Runs the lines of the input, until it ends or the first fault comes.
     pub fn run<I: Source, O: Sink>(&mut self, input: &mut I, output: &mut O) -> Status
         requires begins { Begins self.old }
+        requires free { IsFree O.allowed }
         ensures run { Replays [] self.old.scenario (I.left input.old) (I.left input.new) (I.ended input.new) (O.held output.old) (O.held output.new) result }
         ensures read { InputFaults I.left I.faults input.old input.new result }
         ensures write { OutputFaults O.held O.faults output.old output.new result }

@@ -1,6 +1,7 @@
 // The command that replays a scenario, from what a root gives.
 ghost use Rattle.std.specs.Prelude.{◌≡◌, ◌≤◌, IfErr, IfOk, IfSome};
 ghost use Rattle.std.specs.Option.{option_copied};
+ghost use Rattle.pk_outside.specs.Allowing.{IsFree};
 ghost use Rattle.authority_model.specs.Entering.{AreAllowed};
 ghost use Rattle.scenario_run.specs.Scene.{start};
 ghost use Rattle.scenario_text.specs.Skipped.{skipped_lines};
@@ -46,6 +47,7 @@ fn first_draft<T: Tree>(
 }
 
 /// Writes what the draft skipped, and runs the scenario from it.
+#[tactic(auto, using(pk_outside::proofs::Going::may_go_free))]
 fn replay_from<I: Source, O: Sink>(
     alloc: Global,
     limits: Limits,
@@ -54,6 +56,7 @@ fn replay_from<I: Source, O: Sink>(
     output: &mut O,
 ) -> Status
     requires limits { AreAllowed limits }
+    requires free { IsFree O.allowed }
     ensures run { Replays (skipped_lines first.faults) (start limits first) (I.left input.old) (I.left input.new) (I.ended input.new) (O.held output.old) (O.held output.new) result }
     ensures read { InputFaults I.left I.faults input.old input.new result }
     ensures write { OutputFaults O.held O.faults output.old output.new result }
@@ -94,6 +97,7 @@ pub fn replay<T: Tree, I: Source, O: Sink>(
     output: &mut O,
 ) -> Status
     requires limits { AreAllowed limits }
+    requires free { IsFree O.allowed }
 
     // What is written is what the first load skipped, and the text of the legal history that the bytes
     // read make, as far as the status says.

@@ -1,5 +1,6 @@
 // Writes the answer lines of outputs.
 ghost use Rattle.std.specs.Prelude.{◌≡◌, ◌≤◌, [], ◌∷◌, OnOk, OnErr};
+ghost use Rattle.pk_outside.specs.Allowing.{IsFree};
 ghost use Rattle.pk_outside.specs.Streams.{Got, GotFront};
 ghost use Rattle.scenario_run.specs.Text.{outputs_text, counts_after};
 ghost use Rattle.polkit_daemon.specs.Counted.{counted};
@@ -44,7 +45,7 @@ impl From<NoMemory> for WriteRefused {
 }
 
 /// Writes the answer line of one output.
-#[tactic(auto, using(crate::proofs::Texts::front_none))]
+#[tactic(auto, using(crate::proofs::Texts::front_none, pk_outside::proofs::Going::may_go_free))]
 fn write_answer<O: Sink>(
     alloc: Global,
     history: &History,
@@ -52,6 +53,7 @@ fn write_answer<O: Sink>(
     answer: &Output,
     output: &mut O,
 ) -> Result<(), WriteRefused>
+    requires free { IsFree O.allowed }
     ensures ok { OnOk result (Got (O.held output.old) (O.held output.new) (outputs_text history.now.loads (counted counts.old) (answer.now ∷ []))) }
     ensures counted { OnOk result (counted counts.new ≡ counts_after (counted counts.old) (answer.now ∷ [])) }
     ensures err { OnErr result (GotFront (O.held output.old) (O.held output.new) (outputs_text history.now.loads (counted counts.old) (answer.now ∷ []))) }
@@ -72,6 +74,7 @@ pub fn write_answers<O: Sink>(
     answers: &[Output],
     output: &mut O,
 ) -> Result<(), WriteRefused>
+    requires free { IsFree O.allowed }
     ensures ok { OnOk result (Got (O.held output.old) (O.held output.new) (outputs_text history.now.loads (counted counts.old) answers.now)) }
     ensures counted { OnOk result (counted counts.new ≡ counts_after (counted counts.old) answers.now) }
     ensures err { OnErr result (GotFront (O.held output.old) (O.held output.new) (outputs_text history.now.loads (counted counts.old) answers.now)) }

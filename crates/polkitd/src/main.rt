@@ -1,10 +1,9 @@
 //! The program `polkitd`, over the files and the sockets of the system.
 #![tactic(auto)]
 
-use pk_outside::DirTree;
 use rand::make_rng;
 use rand::rngs::StdRng;
-use real_station::SocketStation;
+use real_outside::{DirTree, SocketStation};
 use std::process::ExitCode;
 
 /// The exit code where the system gives no random words. No status has it.

@@ -2,8 +2,8 @@
 //! scenario.
 #![tactic(auto)]
 
-use empty_station::EmptyStation;
-use pk_outside::DirTree;
+use memory_outside::EmptyStation;
+use real_outside::DirTree;
 use std::process::ExitCode;
 
 fn main(rt: HostRuntime) -> ExitCode {

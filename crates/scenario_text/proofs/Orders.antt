@@ -2,7 +2,7 @@
 use Rattle.std.proofs.Common.{◌≡◌, [], ◌∷◌, List, ℕ, Bool, true, false, Option, None, Some, Result, Ok, Err, ◌||◌, if◌then◌else◌, refl, length, nat_lt}
 use Rattle.std.specs.List.{list_any}
 use Rattle.pk_types.specs.declared.values.Subject.{Subject}
-use Rattle.byte_pieces.specs.Pieces.{pieces_of}
+use Rattle.pk_types.specs.Pieces.{pieces_of}
 use Rattle.authority_model.specs.declared.event.Call.{Call}
 use Rattle.authority_model.specs.declared.event.Event.{Event}
 use Rattle.scenario_text.specs.declared.fault.LineKind.{LineKind}

@@ -2,7 +2,7 @@
 use Rattle.std.proofs.Common.{◌≡◌, ◌==◌, [], ◌∷◌, List, ℕ, Bool, true, false, Option, None, Some, Result, Ok, Err, if◌then◌else◌, refl, codes, length}
 use Rattle.pk_types.specs.Decimals.{decimal_up_to}
 use Rattle.pk_types.specs.Values.{implicit_of_word}
-use Rattle.byte_pieces.specs.Pieces.{pieces_of}
+use Rattle.pk_types.specs.Pieces.{pieces_of}
 use Rattle.authority_model.specs.Words.{after_front}
 use Rattle.scenario_text.specs.declared.check_options.CheckOptions.{CheckOptions}
 use Rattle.scenario_text.specs.declared.fault.LineKind.{LineKind}

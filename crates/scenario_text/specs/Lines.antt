@@ -2,7 +2,7 @@
 use Rattle.std.specs.Prelude.{ℕ, Bool, ◌==◌, ◌||◌, nat_lt, List, [], ◌∷◌, length, slice_index, Option, None, Some, Result, Ok, Err, codes, if◌then◌else◌}
 use Rattle.std.specs.Option.{option_map}
 use Rattle.std.specs.Str.{bytes_eq}
-use Rattle.byte_pieces.specs.Pieces.{pieces_of}
+use Rattle.pk_types.specs.Pieces.{pieces_of}
 use Rattle.authority_model.specs.Lists.{or_else}
 use Rattle.scenario_text.specs.declared.lines.TheConstants.{MAX_LINE}
 use Rattle.scenario_text.specs.declared.fault.LineKind.{LineKind}

@@ -1,7 +1,7 @@
 -- Which fault a line has, by the order of the kinds over all its words.
 use Rattle.std.specs.Prelude.{ℕ, Bool, true, false, ◌^◌, nat_lt, List, [], ◌∷◌, length, Option, None, Some, if◌then◌else◌}
 use Rattle.std.specs.List.{list_any}
-use Rattle.byte_pieces.specs.Pieces.{pieces_of}
+use Rattle.pk_types.specs.Pieces.{pieces_of}
 use Rattle.scenario_text.specs.declared.lines.TheConstants.{MAX_LINE}
 use Rattle.scenario_text.specs.declared.fault.LineKind.{LineKind}
 use Rattle.scenario_text.specs.declared.fault.LineKind.TheVariants as kind

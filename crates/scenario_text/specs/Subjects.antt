@@ -5,7 +5,7 @@ use Rattle.pk_types.specs.declared.values.Identity.{Identity}
 use Rattle.pk_types.specs.declared.values.Identity.TheVariants as identity
 use Rattle.pk_types.specs.declared.values.Subject.{Subject}
 use Rattle.pk_types.specs.declared.values.Subject.TheVariants as subject
-use Rattle.byte_pieces.specs.Pieces.{pieces_of}
+use Rattle.pk_types.specs.Pieces.{pieces_of}
 use Rattle.authority_model.specs.Words.{after_front, bus_name}
 use Rattle.scenario_text.specs.declared.fault.LineKind.{LineKind}
 use Rattle.scenario_text.specs.declared.fault.LineKind.TheVariants as kind

@@ -6,10 +6,11 @@ use Rattle.pk_types.specs.Decimals.{decimal_up_to}
 use Rattle.pk_types.specs.Text.{text_fault_of}
 use Rattle.pk_types.specs.Values.{implicit_of_word}
 use Rattle.pk_types.specs.declared.values.Implicit.{Implicit}
-use Rattle.byte_pieces.specs.Pieces.{pieces_of}
+use Rattle.pk_types.specs.Pieces.{pieces_of}
 use Rattle.scenario_text.specs.declared.fault.LineKind.{LineKind}
 use Rattle.scenario_text.specs.declared.fault.LineKind.TheVariants as kind
 use Rattle.scenario_text.specs.Faults.{◌>>=◌, or_fault}
+use Rattle.pk_types.specs.declared.decimals.TheConstants.{MAX_NUMBER}
 
 -- a number up to the greatest
 abbrev pub number_in : ℕ → List ℕ → Result ℕ LineKind
@@ -17,7 +18,7 @@ number_in greatest word = or_fault kind.Number (decimal_up_to greatest word)
 
 -- a number of 32 bits
 unfoldable pub number_32_in : List ℕ → Result ℕ LineKind
-number_32_in word = number_in (2 ^ 32 - 1) word
+number_32_in word = number_in MAX_NUMBER word
 
 -- a number of 64 bits
 unfoldable pub number_64_in : List ℕ → Result ℕ LineKind
@@ -37,7 +38,7 @@ caller_in word = positive_in 1048575 word
 
 -- the serial of a message
 unfoldable pub serial_in : List ℕ → Result ℕ LineKind
-serial_in word = positive_in (2 ^ 32 - 1) word
+serial_in word = positive_in MAX_NUMBER word
 
 -- an implicit value
 unfoldable pub implicit_in : List ℕ → Result Implicit LineKind

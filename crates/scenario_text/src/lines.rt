@@ -10,7 +10,7 @@ use crate::draft_lines::draft_step;
 use crate::fault::{LineFault, LineKind};
 use crate::first_word::FirstWord;
 use crate::step::Step;
-use byte_pieces::pieces;
+use pk_types::pieces;
 use std::alloc::Global;
 
 /// The greatest number of bytes of a line.

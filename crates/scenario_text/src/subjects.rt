@@ -8,8 +8,7 @@ ghost use Rattle.scenario_text.specs.Subjects.{subject_of_parts, subject_in, ide
 use crate::fault::LineKind;
 use crate::words::{caller_word, number_32, number_64, text_word};
 use authority_model::bus_name;
-use byte_pieces::pieces;
-use pk_types::{Identity, NoMemory, Subject, Text};
+use pk_types::{Identity, NoMemory, Subject, Text, pieces};
 use std::alloc::Global;
 
 /// What comes after a prefix, and `None` exactly where the word does not have this prefix.

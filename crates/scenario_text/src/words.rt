@@ -5,8 +5,7 @@ ghost use Rattle.scenario_text.specs.Words.{number_in, number_32_in, number_64_i
 
 use crate::fault::LineKind;
 use authority_model::GidList;
-use byte_pieces::pieces;
-use pk_types::{ActionId, Implicit, List, Text, TextList, number_up_to};
+use pk_types::{ActionId, Implicit, List, MAX_NUMBER, Text, TextList, number_up_to, pieces};
 use std::alloc::Global;
 
 /// The greatest number of a connection in a scenario.
@@ -28,7 +27,7 @@ pub fn number_word(word: &[u8], greatest: u64) -> Result<u64, LineKind>
 pub fn number_32(word: &[u8]) -> Result<u32, LineKind>
     ensures value { Gives result (number_32_in word.now) }
 {
-    let n = number_word(word, u64::from(u32::MAX))?;
+    let n = number_word(word, u64::from(MAX_NUMBER))?;
     Ok(n as u32)
 }
 
@@ -64,7 +63,7 @@ pub fn caller_word(word: &[u8]) -> Result<u32, LineKind>
 pub fn serial_word(word: &[u8]) -> Result<u32, LineKind>
     ensures value { Gives result (serial_in word.now) }
 {
-    positive_word(word, u32::MAX)
+    positive_word(word, MAX_NUMBER)
 }
 
 /// An implicit value.

@@ -8,8 +8,8 @@ use Rattle.authority_model.specs.Words.{Bytes}
 use Rattle.agent_rules.specs.declared.line.Rule.{Rule}
 use Rattle.agent_rules.specs.declared.rules.TheConstants.{MAX_RULE_FILE}
 use Rattle.agent_rules.specs.Rules.{rules_in}
-use Rattle.agent_words.specs.declared.reading.AgentPlan.{AgentPlan}
-use Rattle.agent_words.specs.Plans.{plan_of}
+use Rattle.client_commands.specs.declared.agent.reading.AgentPlan.{AgentPlan}
+use Rattle.client_commands.specs.AgentPlans.{plan_of}
 use Rattle.script_agent.specs.declared.status.AgentStatus.{AgentStatus}
 use Rattle.script_agent.specs.declared.status.AgentStatus.TheVariants as status
 use Rattle.script_agent.specs.declared.task.Task.{Task}

@@ -1,5 +1,6 @@
 // The helper, over the second link.
 ghost use Rattle.std.specs.Prelude.{◌≡◌, ◌+◌, ◌<◌, ◌≤◌, ◌^◌, [], false, IfOk, OnOk};
+ghost use Rattle.pk_outside.specs.Allowing.{IsFree};
 ghost use Rattle.authority_messages.specs.Messages.{is_over};
 ghost use Rattle.client_messages.specs.Calls.{call_for};
 ghost use Rattle.script_agent.specs.Challenges.{response};
@@ -9,9 +10,9 @@ use crate::line::Line;
 use crate::status::AgentStatus;
 use authority_model::Call;
 use client_messages::laws::a_call_without_details_is_short;
-use message_buffer::MessageBuffer;
 use pk_outside::{Link, Station};
 use pk_types::{Identity, NoMemory, Text};
+use source_buffer::MessageBuffer;
 use std::alloc::Global;
 
 /// The user of the helper's door.
@@ -50,6 +51,7 @@ impl<L: Link> Line<L> {
     #[tactic(none)]
     fn consult(&mut self, cookie: &Text, uid: u32) -> Result<bool, AgentStatus>
         requires room { self.old.sent + 1 < 2 ^ 32 }
+        requires free { IsFree L.Out.allowed }
         ensures consults { Consults cookie.now uid self.old self.new result }
         ensures sent { OnOk result (self.new.sent ≡ self.old.sent + 1) }
     {
@@ -65,6 +67,7 @@ impl<L: Link> Line<L> {
     fn introduce(&mut self, cookie: &Text, uid: u32) -> Result<bool, AgentStatus>
         requires rest { self.old.rest ≡ [] }
         requires sent { self.old.sent ≡ 0 }
+        requires free { IsFree L.Out.allowed }
         ensures introduces { Introduces cookie.now uid self.old self.new result }
         ensures sent { OnOk result (self.new.sent ≡ 1) }
     {
@@ -85,6 +88,7 @@ pub fn ask<N: Station>(
     station: &mut N,
 ) -> Result<bool, AgentStatus>
     requires room { sent_to helper.old + 1 < 2 ^ 32 }
+    requires free_link { IsFree N.Link.Out.allowed }
     ensures asks { Asks path.now cookie.now uid (N.faults station.old) (N.faults station.new) helper.old helper.new result }
     ensures dials { DialsHelper path.now (N.told station.old) (N.told station.new) helper.old helper.new }
     ensures later { N.faults station.old ≤ N.faults station.new }

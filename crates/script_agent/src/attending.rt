@@ -1,5 +1,6 @@
 // An agent with its task: it dials, serves, and hangs up.
 ghost use Rattle.std.specs.Prelude.{◌≡◌, ◌≤◌};
+ghost use Rattle.pk_outside.specs.Allowing.{IsFree};
 ghost use Rattle.script_agent.specs.Runs.{Attends};
 ghost use Rattle.script_agent.specs.Stations.{AreUsedUp, CountsLinks, HangsUp};
 ghost use Rattle.script_agent.specs.Steps.{outside};
@@ -34,6 +35,8 @@ pub fn attend<N: Station, O: Sink>(
     output: &mut O,
 ) -> AgentStatus
     requires count { task.now.count ≤ MAX_COUNT }
+    requires free { IsFree O.allowed }
+    requires free_link { IsFree N.Link.Out.allowed }
     ensures attends { Attends task.now (outside (N.told station.old) (N.faults station.old) (O.held output.old) (O.faults output.old)) (outside (N.told station.new) (N.faults station.new) (O.held output.new) (O.faults output.new)) result }
 {
     let mut desk = match dial(alloc, &task.path, station) {

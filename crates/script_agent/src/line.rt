@@ -1,5 +1,6 @@
 // A connection of the agent.
 ghost use Rattle.std.specs.Prelude.{◌≡◌, ◌<◌, ◌+◌, ◌^◌, [], false, IsSome, IsTrue, IfOk, OnOk};
+ghost use Rattle.pk_outside.specs.Allowing.{IsFree};
 ghost use Rattle.pk_outside.specs.Streams.{IsUsedUp};
 ghost use Rattle.dbus_values.specs.Form.{message_bytes};
 ghost use Rattle.authority_messages.specs.Messages.{is_over};
@@ -15,8 +16,8 @@ use crate::waiting;
 use authority_model::Call;
 use client_link::{LinkStop, send_call, send_reply, shake_hands};
 use client_messages::{AgentBegin, AgentReply};
-use message_buffer::MessageBuffer;
 use pk_outside::{Ends, Link};
+use source_buffer::MessageBuffer;
 use std::alloc::Global;
 use std::marker::Model;
 
@@ -64,7 +65,8 @@ impl<L: Link> Line<L> {
     /// Shakes hands as a client of this user.
     #[tactic(none)]
     pub fn shake(&mut self, uid: u32) -> Result<(), LinkStop>
-        requires { self.old.rest ≡ [] }
+        requires rest { self.old.rest ≡ [] }
+        requires free { IsFree L.Out.allowed }
         ensures shakes { ShakesHands uid self.old.left self.new.left self.new.ended self.old.held self.new.held self.new.rest result }
         ensures faults { LinkFaults self.old.read_faults self.new.read_faults self.old.write_faults self.new.write_faults result }
         ensures origin { self.new.origin ≡ self.old.origin }
@@ -102,6 +104,7 @@ impl<L: Link> Line<L> {
         requires method { IsSome (method_of call.now) }
         requires short { is_over (call_for call.now) ≡ false }
         requires room { self.old.sent + 1 < 2 ^ 32 }
+        requires free { IsFree L.Out.allowed }
         ensures sends { Sends (message_bytes false (under (self.old.sent + 1) (call_for call.now))) self.old self.new result }
         ensures sent { OnOk result (self.new.sent ≡ self.old.sent + 1) }
     {
@@ -115,6 +118,7 @@ impl<L: Link> Line<L> {
     pub fn reply(&mut self, reply: AgentReply, to: u32) -> Result<(), LinkStop>
         requires to { 0 < to }
         requires room { self.old.sent + 1 < 2 ^ 32 }
+        requires free { IsFree L.Out.allowed }
         ensures sends { Sends (message_bytes false (under (self.old.sent + 1) (reply_for reply to))) self.old self.new result }
         ensures sent { OnOk result (self.new.sent ≡ self.old.sent + 1) }
     {

@@ -1,5 +1,6 @@
 // The agent: it registers, and meets one challenge after another.
 ghost use Rattle.std.specs.Prelude.{◌≡◌, ◌+◌, ◌<◌, ◌≤◌, ◌^◌, [], false, None, IfOk, OnOk};
+ghost use Rattle.pk_outside.specs.Allowing.{IsFree};
 ghost use Rattle.pk_outside.specs.Causes.{HasCause};
 ghost use Rattle.authority_messages.specs.Messages.{is_over};
 ghost use Rattle.client_messages.specs.Calls.{call_for};
@@ -39,6 +40,7 @@ fn ending(reply: AgentReply) -> &'static str
 /// Prints the line of a challenge: its action, and what was answered.
 #[tactic(none)]
 fn print<O: Sink>(output: &mut O, action: &Text, reply: AgentReply) -> Result<(), Failed>
+    requires free { IsFree O.allowed }
     ensures prints { Prints action.now reply (O.held output.old) (O.held output.new) result }
     ensures cause { HasCause (O.faults output.old) (O.faults output.new) result }
 {
@@ -68,6 +70,7 @@ impl<L: Link> Line<L> {
     fn open(&mut self, alloc: Global, task: &Task) -> Result<(), AgentStatus>
         requires rest { self.old.rest ≡ [] }
         requires sent { self.old.sent ≡ 0 }
+        requires free { IsFree L.Out.allowed }
         ensures opens { Opens task.now self.old self.new result }
         ensures sent { OnOk result (self.new.sent ≡ 1) }
     {
@@ -92,6 +95,7 @@ fn answer<N: Station>(
     station: &mut N,
 ) -> Result<AgentReply, AgentStatus>
     requires room { sent_to helper.old + 1 < 2 ^ 32 }
+    requires free_link { IsFree N.Link.Out.allowed }
     ensures answers { Answers task.now begin.now (N.faults station.old) (N.faults station.new) helper.old helper.new result }
     ensures dials { DialsHelper task.now.helper (N.told station.old) (N.told station.new) helper.old helper.new }
     ensures later { N.faults station.old ≤ N.faults station.new }
@@ -124,6 +128,8 @@ fn meet<N: Station, O: Sink>(
     requires few { desk.old.sent ≤ task.now.count }
     requires count { task.now.count ≤ MAX_COUNT }
     requires room { sent_to helper.old + 1 < 2 ^ 32 }
+    requires free { IsFree O.allowed }
+    requires free_link { IsFree N.Link.Out.allowed }
     ensures meets { Meets task.now (outside (N.told station.old) (N.faults station.old) (O.held output.old) (O.faults output.old)) desk.old helper.old (outside (N.told station.new) (N.faults station.new) (O.held output.new) (O.faults output.new)) desk.new helper.new result }
     ensures sent { OnOk result (desk.new.sent ≡ desk.old.sent + 1) }
     ensures asked { OnOk result (sent_to helper.new ≤ sent_to helper.old + 1) }
@@ -149,6 +155,8 @@ pub fn serve<N: Station, O: Sink>(
     requires rest { desk.old.rest ≡ [] }
     requires sent { desk.old.sent ≡ 0 }
     requires alone { helper.old ≡ None }
+    requires free { IsFree O.allowed }
+    requires free_link { IsFree N.Link.Out.allowed }
     ensures serves { Serves task.now (outside (N.told station.old) (N.faults station.old) (O.held output.old) (O.faults output.old)) desk.old helper.old (outside (N.told station.new) (N.faults station.new) (O.held output.new) (O.faults output.new)) desk.new helper.new result }
 {
     desk.open(alloc, task)?;

@@ -1,5 +1,6 @@
 // The top call.
 ghost use Rattle.std.specs.Prelude.{◌≤◌, IfOk};
+ghost use Rattle.pk_outside.specs.Allowing.{IsFree};
 ghost use Rattle.script_agent.specs.TopCalls.{Plans, ReadsRules, Runs, TreeCauses, TreeRose};
 ghost use Rattle.script_agent.specs.Steps.{outside};
 
@@ -7,7 +8,7 @@ use crate::attending::attend;
 use crate::status::AgentStatus;
 use crate::task::{MAX_COUNT, Task};
 use agent_rules::{MAX_RULE_FILE, RuleFault, Rules};
-use agent_words::{AgentPlan, WordsFault, read_words};
+use client_commands::{AgentPlan, WordsFault, read_agent};
 use pk_outside::{FileBytes, Sink, Station, Tree, TreeRefused};
 use pk_types::Text;
 use std::alloc::Global;
@@ -17,11 +18,11 @@ fn plan_of(alloc: Global, words: &[Text]) -> Result<AgentPlan, AgentStatus>
     ensures plan { Plans words.now result }
     ensures few { IfOk result (λ plan. plan.count ≤ MAX_COUNT) }
 {
-    match read_words(alloc, words) {
+    match read_agent(alloc, words) {
         Ok(plan) => Ok(plan),
         Err(WordsFault::NoMemory) => Err(AgentStatus::NoMemory),
         Err(WordsFault::Command(_)) => Err(AgentStatus::Usage),
-        Err(WordsFault::Value) => Err(AgentStatus::Usage),
+        Err(WordsFault::Value { .. }) => Err(AgentStatus::Usage),
     }
 }
 
@@ -70,6 +71,8 @@ pub fn script_agent<T: Tree, N: Station, O: Sink>(
     station: &mut N,
     output: &mut O,
 ) -> AgentStatus
+    requires free { IsFree O.allowed }
+    requires free_link { IsFree N.Link.Out.allowed }
     ensures run { Runs words.now (T.told tree.old) (outside (N.told station.old) (N.faults station.old) (O.held output.old) (O.faults output.old)) (outside (N.told station.new) (N.faults station.new) (O.held output.new) (O.faults output.new)) result }
     ensures tree_cause { TreeRose (T.faults tree.old) (T.faults tree.new) result }
 {

@@ -6,8 +6,8 @@ ghost use Rattle.script_agent.specs.Waits.{Hears, refusal_in, refusal_of};
 
 use client_link::{LinkStop, next_answer, next_begin};
 use client_messages::{AgentBegin, ClientAnswer};
-use message_buffer::MessageBuffer;
 use pk_outside::Source;
+use source_buffer::MessageBuffer;
 use std::alloc::Global;
 
 /// Whether an answer refuses a call, where it settles it.

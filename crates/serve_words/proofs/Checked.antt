@@ -2,8 +2,8 @@
 use Rattle.std.proofs.Common.{◌≡◌, ℕ, ◌+◌, ◌*◌, ◌-◌, ◌/◌, ◌==◌, Bool, true, false, cond, List, [], ◌∷◌, ◌++◌, Option, Some, None, refl, ap, sym, ◌∙◌, length, length-append, arith}
 use Rattle.std.specs.Prelude.{codes, is_some, nat_le, not, ◌&&◌, option_and_then}
 use Rattle.std.specs.Str.{bytes_eq}
-use Rattle.door_words.specs.declared.door.DoorPath.{DoorPath}
-use Rattle.door_words.specs.Doors.{door_of}
+use Rattle.command_line.specs.declared.door.DoorPath.{DoorPath}
+use Rattle.command_line.specs.Doors.{door_of}
 use Rattle.serve_words.specs.declared.amounts.Amounts.{Amounts}
 use Rattle.serve_words.specs.declared.plan.ServePlan.{ServePlan}
 use Rattle.serve_words.specs.Doors.{Leaves, SoFar}

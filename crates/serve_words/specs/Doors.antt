@@ -1,6 +1,6 @@
 -- The words behind the doors.
 use Rattle.std.specs.Prelude.{◌≡◌, ℕ, ◌+◌, ◌*◌, List, [], Some, length}
-use Rattle.door_words.specs.declared.door.DoorPath.{DoorPath}
+use Rattle.command_line.specs.declared.door.DoorPath.{DoorPath}
 use Rattle.serve_words.specs.Plans.{doors_from}
 
 -- The words begin with these doors, and the rest follows; each door takes two words.

@@ -4,8 +4,8 @@ use Rattle.std.specs.List.{ends_with}
 use Rattle.std.specs.Str.{bytes_eq}
 use Rattle.pk_types.specs.Decimals.{decimal_up_to}
 use Rattle.authority_model.specs.declared.journal.TheConstants.{MAX_BYTES, MAX_ENTRIES}
-use Rattle.door_words.specs.declared.door.DoorPath.{DoorPath}
-use Rattle.door_words.specs.Doors.{door_of}
+use Rattle.command_line.specs.declared.door.DoorPath.{DoorPath}
+use Rattle.command_line.specs.Doors.{door_of}
 use Rattle.serve_words.specs.declared.plan.ServePlan.{ServePlan}
 use Rattle.serve_words.specs.declared.amounts.Amounts.{Amounts}
 use Rattle.serve_words.specs.declared.amounts.TheConstants.{MAX_SLOTS, MAX_CONNECTIONS}

@@ -5,7 +5,7 @@ ghost use Rattle.serve_words.specs.Plans.{doors_from, plan_from, plan_in};
 
 use crate::amounts::{amounts_in, value_of};
 use crate::reading::{is_root, is_served};
-use door_words::is_door;
+use command_line::is_door;
 use pk_types::Text;
 
 /// The words behind the doors that the words name, and `None` exactly where one is not of the form.

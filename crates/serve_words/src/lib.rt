@@ -5,8 +5,6 @@ mod amounts;
 mod checking;
 mod plan;
 mod reading;
-#[cfg(test)]
-mod tests;
 
 pub use amounts::{entries_in, positive};
 pub use checking::is_plan;

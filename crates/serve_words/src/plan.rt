@@ -1,6 +1,6 @@
 // What a service is to do.
 use authority_model::Limits;
-use door_words::DoorPath;
+use command_line::DoorPath;
 use pk_types::{List, Text};
 
 /// Doors in the order of their options.

@@ -5,7 +5,7 @@ ghost use Rattle.serve_words.specs.Plans.{IsAllowed, IsInRange, doors_from, is_r
 use crate::amounts::{Amounts, MAX_SLOTS, amounts_in, value_of};
 use crate::plan::{DoorList, ServePlan};
 use authority_model::{Limits, MAX_BYTES};
-use door_words::read_door;
+use command_line::read_door;
 use pk_types::{List, NoMemory, Text};
 use std::alloc::Global;
 

@@ -9,6 +9,7 @@ ghost use Rattle.service_slots.specs.declared.line.Line.{Line};
 ghost use Rattle.service_slots.specs.Doors.{made_of, DoorsAreDone, OpensDoor, ShutsDoor};
 ghost use Rattle.service_slots.specs.Served.{SlotOf, SlotsOf};
 ghost use Rattle.service_slots.specs.Stops.{HasServedAll, IsStopped, StopTells};
+ghost use Rattle.history_lock.specs.declared.machine.TheConstants.{MOST_PASSES};
 
 use crate::line::Line;
 use crate::slot::Slot;
@@ -70,7 +71,7 @@ pub fn shut_slot<L: LimitsName, T: TableName, N: Station>(
         → IsStopped L.limits most slot.pass (N.Door.told slot.door) (N.Door.faults slot.door) slot.lines.items slot.stop
         → HasServedAll result.stop → DoorsAreDone most (N.told station.old) (N.told station.new) }
     ensures learned { Learned caller_of IsJournal control.old control.new }
-    ensures top { control.new.made ≤ 1048576 }
+    ensures top { control.new.made ≤ MOST_PASSES }
     ensures later { N.faults station.old ≤ N.faults station.new }
 {
     let Slot {

@@ -7,6 +7,7 @@ use Rattle.authority_model.specs.declared.journal.Limits.{Limits}
 use Rattle.authority_model.specs.declared.journal.TheConstants.{MAX_ENTRIES}
 use Rattle.authority_model.specs.Entering.{counted_bytes}
 use Rattle.authority_model.specs.Legal.{Legal}
+use Rattle.history_lock.specs.declared.machine.TheConstants.{MOST_PASSES}
 
 -- the number of the connection whose item it is
 abbrev pub caller_of : Item → ℕ
@@ -39,8 +40,8 @@ pub record WasFullWith (limits : Limits) (list : List Item) (entries bytes : ℕ
 
 -- All passes were made, and this is their number.
 pub record AllAdmitted (admitted passes : ℕ) : Type 0 where
-  pub number : admitted ≡ 1048576
-  pub all : passes ≡ 1048576
+  pub number : admitted ≡ MOST_PASSES
+  pub all : passes ≡ MOST_PASSES
 
 -- A cause for the end fits a journal and the count of passes that were made.
 abbrev pub Fits : Limits → EndCause → List Item → ℕ → Type 0

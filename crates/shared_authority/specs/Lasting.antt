@@ -10,6 +10,7 @@ use Rattle.authority_model.specs.declared.journal.Item.{Item}
 use Rattle.authority_model.specs.declared.journal.Limits.{Limits}
 use Rattle.authority_model.specs.Entering.{cost_of_item, counted_bytes}
 use Rattle.shared_authority.specs.Journals.{IsJournal, Fits, past_of}
+use Rattle.history_lock.specs.declared.machine.TheConstants.{MOST_PASSES}
 
 -- no item at all is a journal
 pub empty_journal : IsJournal []
@@ -27,7 +28,7 @@ bytes_grow list more =
     omega (arith, turned, parts)
 
 -- a cause that fits goes on to fit
-pub fits_lasts : (limits : Limits) (cause : EndCause) (list more : List Item) (m n : ℕ) → Fits limits cause list m → IsJournal more → IsPrefix list more → m ≤ n → n ≤ 1048576 → Fits limits cause more n
+pub fits_lasts : (limits : Limits) (cause : EndCause) (list more : List Item) (m n : ℕ) → Fits limits cause list m → IsJournal more → IsPrefix list more → m ≤ n → n ≤ MOST_PASSES → Fits limits cause more n
 fits_lasts limits (JournalFull entries bytes) list more m n fits journal begins le top =
     let (added, goes_on) = begins in
     let longer = sym (ap length goes_on) ∙ length-append list added in

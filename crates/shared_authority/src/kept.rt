@@ -1,6 +1,7 @@
 // The authority as the machine under the lock.
 ghost use Rattle.std.specs.Prelude.{◌≡◌, ◌≤◌, [], length};
 ghost use Rattle.authority_model.specs.Entering.{AreAllowed};
+ghost use Rattle.authority_model.specs.declared.journal.TheConstants.{MAX_ENTRIES};
 ghost use Rattle.authority_laws.specs.Batches.{in_order};
 ghost use Rattle.shared_authority.specs.Handing.{op_of_step, refusal_of_step, op_of_load, refusal_of_load, refusal_of_collect};
 
@@ -33,7 +34,7 @@ pub struct Kept<L: LimitsName> {
     authority: Authority,
     of: PhantomData<L>,
     ghost named: { authority.limits ≡ L.limits },
-    ghost few: { L.limits.entries ≤ 1048576 },
+    ghost few: { L.limits.entries ≤ MAX_ENTRIES },
     ghost within: { length authority.history.entries ≤ L.limits.entries },
 }
 

@@ -10,6 +10,7 @@ ghost use Rattle.authority_model.specs.Given.{IsStepped, event_given, load_given
 ghost use Rattle.authority_laws.specs.Batches.{in_order};
 ghost use Rattle.shared_authority.specs.Journals.{IsJournal, Fits, caller_of};
 ghost use Rattle.shared_authority.specs.Passes.{Collects, CollectIsRefused, CollectsNow, Submitted, SubmitIsRefused, SubmitLoadIsRefused};
+ghost use Rattle.history_lock.specs.declared.machine.TheConstants.{MOST_PASSES};
 
 use crate::collecting::{
     CollectRefused, Collected, CollectedNow, collected_now, collected_or_refused,
@@ -246,7 +247,7 @@ impl<L: LimitsName, T: TableName> Shared<L, T> {
         requires { Fits L.limits cause pass.old.history pass.old.made }
         ensures fits { Fits L.limits result pass.new.history pass.new.made }
         ensures learned { Learned caller_of IsJournal pass.old pass.new }
-        ensures top { pass.new.made ≤ 1048576 }
+        ensures top { pass.new.made ≤ MOST_PASSES }
         ensures knows { pass.new.ended ≡ Some result }
         ensures knew { IfSome pass.old.ended (λ known. result ≡ known) }
     {
@@ -267,7 +268,7 @@ impl<L: LimitsName, T: TableName> Shared<L, T> {
             → first.old.ended ≡ Some cause
             → second.old.ended ≡ Some other
             → cause ≡ other }
-        ensures top { first.new.made ≤ 1048576 }
+        ensures top { first.new.made ≤ MOST_PASSES }
         ensures first { Learned caller_of IsJournal first.old first.new }
         ensures second { Learned caller_of IsJournal second.old second.new }
     {

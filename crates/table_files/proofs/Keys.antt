@@ -30,9 +30,10 @@ module _ {R : Type 0} (rows : List R) where
   pub number_stands : (f : R → ℕ) (keys : List ℕ) (k : ℕ) → keys ≡ map f rows → list_any (λ n. k == n) keys ≡ list_any (λ r. k == f r) rows
   number_stands f keys k e = ap (list_any (λ n. k == n)) e ∙ list_any-map (λ n. k == n) f rows
 
-  pub name_stands : (f : R → List ℕ) (keys : List (Bor (List ℕ))) (k : List ℕ) → map now_of keys ≡ map f rows
-      → list_any (λ n. bytes_eq k n.now) keys ≡ list_any (λ r. bytes_eq k (f r)) rows
-  name_stands f keys k e = sym (list_any-map (bytes_eq k) now_of keys) ∙ ap (list_any (bytes_eq k)) e ∙ list_any-map (bytes_eq k) f rows
+  -- a name stands among the keys where it stands among the rows
+  pub name_stands : {K : Type 0} (bytes_of : K → List ℕ) (f : R → List ℕ) (keys : List K) (k : List ℕ) → map bytes_of keys ≡ map f rows
+      → list_any (λ n. bytes_eq k (bytes_of n)) keys ≡ list_any (λ r. bytes_eq k (f r)) rows
+  name_stands bytes_of f keys k e = sym (list_any-map (bytes_eq k) bytes_of keys) ∙ ap (list_any (bytes_eq k)) e ∙ list_any-map (bytes_eq k) f rows
 
   -- the key of one more row goes last
   pub number_pushed : (f : R → ℕ) (keys new : List ℕ) (row : R) (more : List R) → keys ≡ map f rows → list_any (λ r. f row == f r) rows ≡ false
@@ -44,13 +45,13 @@ module _ {R : Type 0} (rows : List R) where
       ∙ sym (map-append f rows (row ∷ []))
       ∙ ap (map f) (sym push)
 
-  pub name_pushed : (f : R → List ℕ) (keys new : List (Bor (List ℕ))) (name : Bor (List ℕ)) (row : R) (more : List R) → map now_of keys ≡ map f rows → f row ≡ name.now
-      → list_any (λ r. bytes_eq name.now (f r)) rows ≡ false → new ≡ insert_key same_name keys name → more ≡ rows ++ row ∷ []
-      → map now_of new ≡ map f more
-  name_pushed f keys new name row more e is none put push =
-      ap (map now_of) (put ∙ ap (λ t. cond t keys (keys ++ name ∷ [])) (name_stands f keys name.now e ∙ none))
-      ∙ map-append now_of keys (name ∷ [])
-      ∙ ap (λ ks. ks ++ name.now ∷ []) e
+  pub name_pushed : {K : Type 0} (bytes_of : K → List ℕ) (f : R → List ℕ) (keys new : List K) (name : K) (row : R) (more : List R) → map bytes_of keys ≡ map f rows → f row ≡ bytes_of name
+      → list_any (λ r. bytes_eq (bytes_of name) (f r)) rows ≡ false → new ≡ insert_key (λ x y. bytes_eq (bytes_of x) (bytes_of y)) keys name → more ≡ rows ++ row ∷ []
+      → map bytes_of new ≡ map f more
+  name_pushed bytes_of f keys new name row more e is none put push =
+      ap (map bytes_of) (put ∙ ap (λ t. cond t keys (keys ++ name ∷ [])) (name_stands bytes_of f keys (bytes_of name) e ∙ none))
+      ∙ map-append bytes_of keys (name ∷ [])
+      ∙ ap (λ ks. ks ++ bytes_of name ∷ []) e
       ∙ ap (λ n. map f rows ++ n ∷ []) (sym is)
       ∙ sym (map-append f rows (row ∷ []))
       ∙ ap (map f) (sym push)
@@ -66,7 +67,7 @@ module _ {R : Type 0} (rows : List R) where
       → found ≡ (list_any (λ r. k == f r) rows || list_any (λ r. bytes_eq name (g r)) rows)
   name_found f g keys names k name other found e es is apart found_is =
       found_is
-      ∙ name_stands g names name es
+      ∙ name_stands now_of g names name es
       ∙ ap (λ t. t || list_any (λ r. bytes_eq name (g r)) rows) (sym (sym (is ∙ number_stands f keys k e) ∙ apart))
 
   -- both keys of one more row go last
@@ -77,7 +78,7 @@ module _ {R : Type 0} (rows : List R) where
       → (new ≡ map f more) × (map now_of more_names ≡ map g more)
   both_pushed f g keys new names more_names name row more e es is none put put_name push =
       let apart = both_false (list_any (λ r. f row == f r) rows) (list_any (λ r. bytes_eq name.now (g r)) rows) none in
-      (number_pushed f keys new row more e apart.0 put push, name_pushed g names more_names name row more es is apart.1 put_name push)
+      (number_pushed f keys new row more e apart.0 put push, name_pushed now_of g names more_names name row more es is apart.1 put_name push)
 
 pub is_same : (a b : List ℕ) → bytes_eq a b ≡ true → a ≡ b
 is_same a b e = (bytes_eq-Decides a b).0 e

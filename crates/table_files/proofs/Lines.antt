@@ -1,8 +1,8 @@
 -- The first line of bytes.
 use Rattle.std.proofs.Common.{◌≡◌, ℕ, ◌==◌, List, [], ◌∷◌, length, take, drop, false, ap, sym, ◌∙◌, arith}
 use Rattle.std.proofs.lemmas.List.{take_all, drop_all}
-use Rattle.byte_pieces.specs.Pieces.{Lacks, IsCut, lines_of}
-use Rattle.byte_pieces.proofs.Cuts.{lines_of-cut, lines_of-last, some_bytes}
+use Rattle.pk_types.specs.Pieces.{Lacks, IsCut, lines_of}
+use Rattle.pk_types.proofs.Cuts.{lines_of-cut, lines_of-last, some_bytes}
 
 pub first_line : (bytes line behind : List ℕ) → IsCut 10 bytes line behind → lines_of bytes ≡ line ∷ lines_of behind
 first_line bytes line behind cut = ap lines_of cut.whole ∙ lines_of-cut line behind cut.first

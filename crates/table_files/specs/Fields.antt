@@ -1,8 +1,7 @@
 -- The fields of a row.
 use Rattle.std.specs.Prelude.{ℕ, Bool, true, false, ◌&&◌, nat_le, List, length, Option, Some, None, is_none, Result, Ok, Err}
 use Rattle.pk_types.specs.Text.{text_bad}
-use Rattle.pk_types.specs.Decimals.{decimal_up_to}
-use Rattle.authority_model.specs.Words.{number_of}
+use Rattle.pk_types.specs.Decimals.{decimal_up_to, number_of}
 use Rattle.table_files.specs.declared.fault.TableFault.{TableFault}
 use Rattle.table_files.specs.declared.fault.TableFault.TheVariants.{Fields, Number}
 use Rattle.table_files.specs.declared.limits.TheConstants.{MAX_NAME}

@@ -1,6 +1,6 @@
 -- The groups of a file as group(5) has it, and the memberships that it adds to users.
 use Rattle.std.specs.Prelude.{ℕ, ◌==◌, Bool, ◌||◌, List, [], ◌∷◌, ◌++◌, Result, Ok, Err, if◌then◌else◌, bytes_eq, map, filter, fold}
-use Rattle.byte_pieces.specs.Pieces.{pieces_of}
+use Rattle.pk_types.specs.Pieces.{pieces_of}
 use Rattle.authority_model.specs.declared.world.User.{User}
 use Rattle.authority_model.specs.declared.world.Group.{Group}
 use Rattle.authority_model.specs.Lists.{any_of}

@@ -1,6 +1,6 @@
 -- The processes of a table.
 use Rattle.std.specs.Prelude.{ℕ, ◌==◌, Bool, false, not, List, [], ◌∷◌, Option, Some, None, Result, Ok, Err, if◌then◌else◌, bytes_eq, codes}
-use Rattle.byte_pieces.specs.Pieces.{pieces_of}
+use Rattle.pk_types.specs.Pieces.{pieces_of}
 use Rattle.authority_model.specs.declared.world.Process.{Process}
 use Rattle.authority_model.specs.declared.world.Session.{Session}
 use Rattle.authority_model.specs.Lists.{any_of}

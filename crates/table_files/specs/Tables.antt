@@ -1,6 +1,6 @@
 -- A table of the lines of a file, or its first fault.
 use Rattle.std.specs.Prelude.{ℕ, ◌+◌, ◌==◌, Bool, true, nat_lt, List, [], ◌∷◌, ◌++◌, length, Result, Ok, Err, if◌then◌else◌}
-use Rattle.byte_pieces.specs.Pieces.{lines_of}
+use Rattle.pk_types.specs.Pieces.{lines_of}
 use Rattle.table_files.specs.declared.fault.TableFault.{TableFault}
 use Rattle.table_files.specs.declared.fault.TableFault.TheVariants.{TooLong, TooMany}
 use Rattle.table_files.specs.declared.limits.TheConstants.{MAX_FILE, MAX_ROWS}

@@ -1,6 +1,6 @@
 -- The users of a file as passwd(5) has it.
 use Rattle.std.specs.Prelude.{ℕ, ◌==◌, Bool, ◌||◌, List, [], ◌∷◌, Result, Ok, Err, if◌then◌else◌, bytes_eq}
-use Rattle.byte_pieces.specs.Pieces.{pieces_of}
+use Rattle.pk_types.specs.Pieces.{pieces_of}
 use Rattle.authority_model.specs.declared.world.User.{User}
 use Rattle.authority_model.specs.Lists.{any_of}
 use Rattle.authority_model.specs.Worlds.{user_label}

@@ -6,7 +6,7 @@ ghost use Rattle.table_files.specs.Fields.{is_name, number_32, number_64};
 
 use crate::fault::TableFault;
 use crate::limits::MAX_NAME;
-use pk_types::{NoMemory, Text, bad_byte, number_up_to};
+use pk_types::{NoMemory, Text, bad_byte, number, number_up_to};
 use std::alloc::Global;
 
 /// Whether a field may be a name or a session id.
@@ -20,8 +20,8 @@ pub fn is_name(field: &[u8]) -> bool
 pub fn number_32(line: usize, field: &[u8]) -> Result<u32, TableFault>
     ensures number { Reads (λ n. n) result (number_32 line field.now) }
 {
-    match number_up_to(field, u64::from(u32::MAX)) {
-        Some(number) => Ok(number as u32),
+    match number(field) {
+        Some(number) => Ok(number),
         None => Err(TableFault::Number { line }),
     }
 }

@@ -11,9 +11,8 @@ use crate::limits::MAX_ROWS;
 use crate::memberships::joined;
 use crate::table::{Table, read_lines};
 use authority_model::{Group, GroupList, UserList};
-use byte_pieces::pieces;
 use indexmap::IndexSet;
-use pk_types::{NoMemory, Text};
+use pk_types::{NoMemory, Text, pieces};
 use std::alloc::Global;
 
 /// The row of the fields that count.

@@ -9,9 +9,8 @@ ghost use Rattle.table_files.specs.Kept.{listing_in, kept_gids, gid_of_each, gid
 use crate::kept::{GroupRow, Memberships};
 use crate::names::names_of;
 use authority_model::{GidList, User, UserList};
-use byte_pieces::pieces;
 use indexmap::IndexSet;
-use pk_types::{NoMemory, TryCopy};
+use pk_types::{NoMemory, TryCopy, pieces};
 use std::alloc::Global;
 
 /// The members that a field names.

@@ -14,9 +14,8 @@ use crate::limits::MAX_ROWS;
 use crate::names::names_of;
 use crate::table::{Table, read_lines};
 use authority_model::{Process, ProcessList, SessionList};
-use byte_pieces::pieces;
 use indexmap::IndexSet;
-use pk_types::{NoMemory, Text};
+use pk_types::{NoMemory, Text, pieces};
 use std::alloc::Global;
 
 /// What a row has of a process.

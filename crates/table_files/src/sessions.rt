@@ -10,9 +10,8 @@ use crate::kept::SessionTable;
 use crate::limits::MAX_ROWS;
 use crate::table::{Table, read_lines};
 use authority_model::{Session, SessionList};
-use byte_pieces::pieces;
 use indexmap::IndexSet;
-use pk_types::{NoMemory, Text};
+use pk_types::{NoMemory, Text, pieces};
 use std::alloc::Global;
 
 /// What a row has of a session.

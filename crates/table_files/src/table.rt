@@ -1,13 +1,13 @@
 // A table line by line.
 ghost use Rattle.std.specs.Prelude.{◌≡◌, ◌<◌, ◌∷◌, [], ℕ, List, Result, IfNone, IfOk, IfSome, length};
-ghost use Rattle.byte_pieces.specs.Pieces.{lines_of};
+ghost use Rattle.pk_types.specs.Pieces.{lines_of};
 ghost use Rattle.table_files.specs.declared.fault.TableFault.{TableFault as Fault};
 ghost use Rattle.table_files.specs.Faults.{Reads};
 ghost use Rattle.table_files.specs.Tables.{is_passed_over, after_line, table_of};
 
 use crate::fault::TableFault;
 use crate::limits::MAX_FILE;
-use byte_pieces::cut;
+use pk_types::cut;
 use std::alloc::Global;
 
 /// A table that grows line by line.

@@ -1,16 +1,16 @@
 // Folders of tests, and stations over sockets in them.
 use rand::rngs::StdRng;
 use rand::{RngExt, make_rng};
-use real_station::SocketStation;
+use real_outside::SocketStation;
 use std::env::{self, Env};
-use std::fs::{self, Files};
+use std::fs::{self, File, Files};
 use std::io;
 use std::net::Net;
 use std::random::RandomSource;
 use std::time::Clock;
 
 /// A station of the system.
-pub fn socket_station<R: Net + Files + Clock + RandomSource + AllocGlobal + Sync>(
+pub fn socket_station<R: Net + Files<File = File> + Clock + RandomSource + AllocGlobal + Sync>(
     rt: &R,
 ) -> io::Result<SocketStation<'_, R>> {
     Ok(SocketStation::new(rt, rt.alloc(), make_rng(rt)?))

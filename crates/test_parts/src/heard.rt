@@ -97,6 +97,10 @@ impl<'a, R: Clock + Sync, N: Station> Station for HeardStation<'a, R, N> {
 
     type Salt = N::Salt;
 
+    type File = N::File;
+
+    type Sights = N::Sights;
+
     ghost told = { λ _. None };
 
     ghost faults = { λ s. N.faults s.inner };
@@ -126,6 +130,18 @@ impl<'a, R: Clock + Sync, N: Station> Station for HeardStation<'a, R, N> {
 
     fn salt(&mut self) -> N::Salt {
         self.inner.salt()
+    }
+
+    fn sights(&mut self) -> N::Sights {
+        self.inner.sights()
+    }
+
+    fn file(&mut self, path: &Text) -> Result<N::File, StationRefused> {
+        self.inner.file(path)
+    }
+
+    fn filed(&mut self, file: N::File) {
+        self.inner.filed(file)
     }
 
     fn shut(&mut self, door: N::Door, clock: N::Clock, salt: N::Salt) {

@@ -1,5 +1,6 @@
 // The tree of files of a service and of an agent, words, and outputs.
-use pk_outside::{ByteSink, ListTree, TreeDirectory, TreeFile};
+use memory_outside::{ByteSink, ListTree};
+use pk_outside::{TreeDirectory, TreeFile};
 use pk_types::{ByteList, List, NoMemory, TextList};
 use std::alloc::Global;
 use test_values::text;

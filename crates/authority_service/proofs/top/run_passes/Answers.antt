@@ -1,7 +1,7 @@
 use Rattle.std.proofs.Common.{◌*◌, List, refl, ap, ◌∙◌, arith, length, vec_len}
 use Rattle.std.specs.Prelude.{slice_index_or}
 use Rattle.authority_laws.specs.Batches.{in_order}
-use Rattle.door_words.specs.declared.door.DoorPath.{DoorPath}
+use Rattle.command_line.specs.declared.door.DoorPath.{DoorPath}
 use Rattle.authority_service.proofs.Closing.{doors_back, flat_none, flat_same, opened_done, opened_none, short_none, unserved_told, made_again}
 use Rattle.authority_service.proofs.FirstLoad.{begins_longer}
 use Rattle.authority_service.proofs.RunsEnd.{opens_at, slots_run, unbegun_cause}

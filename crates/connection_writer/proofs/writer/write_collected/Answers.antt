@@ -7,10 +7,10 @@ use Rattle.connection_writer.proofs.Written.{rose_later}
 use Rattle.shared_authority.specs.declared.collecting.Collected.TheVariants.{Batch, Gone}
 use Rattle.connection_writer.proofs.writer.write_collected.Goals as goal
 
-pub write_batch-requires-after_bounds : goal.write_batch-requires-after_bounds
-write_batch-requires-after_bounds g c κs within =
+pub write_batch-requires-clause-writable : goal.write_batch-requires-clause-writable
+write_batch-requires-clause-writable g c κs within =
     let i = c.in-Some-Ok-Batch in
-    let r = c.requires in
+    let r = c.requires.collects in
     writable r.1 r.0 c.args.pass.now i.batch r.2 (told g.L.LimitsName.limits r.0 c.args.pass.now r.1 c.args.now i.field-0 i.field-0-0 (Batch i.batch) i.is i.field-0-is i.field-0-0-is r.3)
 
 pub returns-in-Some-Ok-Gone-clause-stands : goal.returns-in-Some-Ok-Gone-clause-stands

@@ -1,6 +1,6 @@
 -- The files of all turns were read and kept.
 use Rattle.std.proofs.Common.{◌≡◌, ◌≤◌, ap, ◌∙◌, arith}
-use Rattle.policy_files.specs.Joins.{file_count}
+use Rattle.policy_load.specs.Joins.{file_count}
 use Rattle.policy_load.proofs.Steps.{gathered}
 use Rattle.policy_load.proofs.loading.gather.Goals as goal
 

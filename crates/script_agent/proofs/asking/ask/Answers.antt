@@ -12,6 +12,9 @@ use Rattle.script_agent.proofs.asking.ask.Goals as goal
 pub consult-result-requires-clause-room : goal.consult-result-requires-clause-room
 consult-result-requires-clause-room g c κs within = subst (λ (h : Option LineNow). sent_to h + 1 < 2 ^ 32) (sym c.take.ensures.value ∙ c.in-Some.is) c.requires.room
 
+pub consult-result-requires-clause-free : goal.consult-result-requires-clause-free
+consult-result-requires-clause-free g c κs within = c.requires.free_link
+
 pub returns-in-Some-clause-asks : goal.returns-in-Some-clause-asks
 returns-in-Some-clause-asks g c =
     subst (λ (h : Option LineNow). Asks c.args.path.now c.args.cookie.now c.args.uid (g.N.Station.faults c.args.station.now) (g.N.Station.faults c.args.station.now) h (Some c.consult-result.new.self) c.consult-result.result) (sym (sym c.take.ensures.value ∙ c.in-Some.is))
@@ -45,6 +48,9 @@ introduce-result-requires-clause-rest g c κs within = c.in_ok-line-in-None.ensu
 
 pub introduce-result-requires-clause-sent : goal.introduce-result-requires-clause-sent
 introduce-result-requires-clause-sent g c κs within = c.in_ok-line-in-None.ensures.dials.1.sent
+
+pub introduce-result-requires-clause-free : goal.introduce-result-requires-clause-free
+introduce-result-requires-clause-free g c κs within = c.requires.free_link
 
 pub returns-in_ok-line-in-None-clause-asks : goal.returns-in_ok-line-in-None-clause-asks
 returns-in_ok-line-in-None-clause-asks g c =

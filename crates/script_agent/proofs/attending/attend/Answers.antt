@@ -18,6 +18,12 @@ serve-end-requires-clause-sent g c κs within = c.in-Ok.ensures.dials.1.sent
 pub serve-end-requires-clause-alone : goal.serve-end-requires-clause-alone
 serve-end-requires-clause-alone g c κs within = refl
 
+pub serve-end-requires-clause-free : goal.serve-end-requires-clause-free
+serve-end-requires-clause-free g c κs within = c.requires.free
+
+pub serve-end-requires-clause-free_link : goal.serve-end-requires-clause-free_link
+serve-end-requires-clause-free_link g c κs within = c.requires.free_link
+
 pub returns-in-Ok-end : goal.returns-in-Ok-end
 returns-in-Ok-end g c =
     let start = outside (g.N.Station.told c.args.station.now) (g.N.Station.faults c.args.station.now) (g.O.Sink.held c.args.output.now) (g.O.Sink.faults c.args.output.now) in

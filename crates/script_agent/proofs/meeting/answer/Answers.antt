@@ -12,6 +12,9 @@ use Rattle.script_agent.proofs.meeting.answer.Goals as goal
 pub ask-requires-clause-room : goal.ask-requires-clause-room
 ask-requires-clause-room g c κs within = c.requires.room
 
+pub ask-requires-clause-free_link : goal.ask-requires-clause-free_link
+ask-requires-clause-free_link g c κs within = c.requires.free_link
+
 pub returns-in_err-refused-in-Authenticate-clause-answers : goal.returns-in_err-refused-in-Authenticate-clause-answers
 returns-in_err-refused-in-Authenticate-clause-answers g c asks line at =
     err_along (AnsweredBy c.args.task.now asks c.args.begin.now (g.N.Station.faults c.args.station.now) (g.N.Station.faults c.ask.new.station) c.ask.new.helper) c.from_residual.result c.in_err-refused-in-Authenticate.field-0.0 c.from_residual.ensures.1

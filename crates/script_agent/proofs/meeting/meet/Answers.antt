@@ -21,6 +21,9 @@ returns-in_err-begin g c = record {
 pub answer-requires-clause-room : goal.answer-requires-clause-room
 answer-requires-clause-room g c κs within = c.requires.room
 
+pub answer-requires-clause-free_link : goal.answer-requires-clause-free_link
+answer-requires-clause-free_link g c κs within = c.requires.free_link
+
 pub returns-in_err-reply : goal.returns-in_err-reply
 returns-in_err-reply g c = record {
   meets = λ start st. err_along (MetBy c.args.task.now start _ c.args.desk.now c.await_begin.new.self c.answer.new.helper) c.from_residual-in_err-reply.result c.in_err-reply.field-0.0 c.from_residual-in_err-reply.ensures.1
@@ -34,6 +37,12 @@ reply-requires-clause-to g c κs within = c.in_ok-begin.ensures.serial
 
 pub reply-requires-clause-room : goal.reply-requires-clause-room
 reply-requires-clause-room g c κs within = omega (arith, c.in_ok-begin.ensures.waits.sent, c.requires.few, c.requires.count)
+
+pub reply-requires-clause-free : goal.reply-requires-clause-free
+reply-requires-clause-free g c κs within = c.requires.free_link
+
+pub print-requires-clause-free : goal.print-requires-clause-free
+print-requires-clause-free g c κs within = c.requires.free
 
 pub returns-in_err-reply-2 : goal.returns-in_err-reply-2
 returns-in_err-reply-2 g c = record {

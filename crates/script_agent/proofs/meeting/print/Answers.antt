@@ -1,4 +1,5 @@
 use Rattle.std.proofs.Common.{◌≡◌, refl, sym, subst, ◌∙◌, ◌++◌, Option, Result}
+use Rattle.pk_outside.proofs.Going.{may_go_free}
 use Rattle.pk_outside.specs.Causes.{HasCause}
 use Rattle.pk_outside.specs.Streams.{Got, GotFront}
 use Rattle.authority_model.specs.Words.{Bytes}
@@ -6,6 +7,12 @@ use Rattle.script_agent.specs.Steps.{Prints}
 use Rattle.script_agent.proofs.Fronts.{err_along}
 use Rattle.script_agent.proofs.Printing.{cause_rest, print_part, print_rest}
 use Rattle.script_agent.proofs.meeting.print.Goals as goal
+
+pub write_all-requires-clause-may : goal.write_all-requires-clause-may
+write_all-requires-clause-may g c κs within = may_go_free g.O.Sink.allowed _ _ c.requires.free
+
+pub write_all-requires-2-clause-may : goal.write_all-requires-2-clause-may
+write_all-requires-2-clause-may g c κs within = may_go_free g.O.Sink.allowed _ _ c.requires.free
 
 pub returns-in_err-write_all-clause-prints : goal.returns-in_err-write_all-clause-prints
 returns-in_err-write_all-clause-prints g c =

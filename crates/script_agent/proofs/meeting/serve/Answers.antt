@@ -12,6 +12,9 @@ open-requires-clause-rest g c κs within = c.requires.rest
 pub open-requires-clause-sent : goal.open-requires-clause-sent
 open-requires-clause-sent g c κs within = c.requires.sent
 
+pub open-requires-clause-free : goal.open-requires-clause-free
+open-requires-clause-free g c κs within = c.requires.free_link
+
 pub returns-in_err-open : goal.returns-in_err-open
 returns-in_err-open g c = record {
   serves = λ start a. err_along (ServedBy c.args.task.now start _ c.open.new.self c.args.helper.now) c.from_residual.result c.in_err-open.field-0.0 c.from_residual.ensures.1
@@ -33,6 +36,12 @@ meet-requires-clause-count g c κs within = c.requires.count
 
 pub meet-requires-clause-room : goal.meet-requires-clause-room
 meet-requires-clause-room g c κs within = omega (arith, c.challenges.invariant.asked, c.requires.count)
+
+pub meet-requires-clause-free : goal.meet-requires-clause-free
+meet-requires-clause-free g c κs within = c.requires.free
+
+pub meet-requires-clause-free_link : goal.meet-requires-clause-free_link
+meet-requires-clause-free_link g c κs within = c.requires.free_link
 
 pub returns-in_err-meet : goal.returns-in_err-meet
 returns-in_err-meet g c = record {

@@ -17,6 +17,12 @@ returns-in-Err-rules_of-clause-tree_cause g c = c.in-Err-rules_of.ensures.cause
 pub attend-requires-clause-count : goal.attend-requires-clause-count
 attend-requires-clause-count g c κs within = c.in-Ok.ensures.few
 
+pub attend-requires-clause-free : goal.attend-requires-clause-free
+attend-requires-clause-free g c κs within = c.requires.free
+
+pub attend-requires-clause-free_link : goal.attend-requires-clause-free_link
+attend-requires-clause-free_link g c κs within = c.requires.free_link
+
 pub returns-clause-run : goal.returns-clause-run
 returns-clause-run g c = task_run c.args.words.now _ c.in-Ok.plan c.in-Ok-rules_of.rules _ _ c.attend.result c.in-Ok.ensures.plan c.in-Ok-rules_of.ensures.rules c.attend.ensures.attends
 

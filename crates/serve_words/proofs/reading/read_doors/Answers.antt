@@ -1,7 +1,7 @@
 -- One door more is read.
 use Rattle.std.proofs.Common.{◌≡◌, ◌∙◌, Some}
 use Rattle.std.specs.Prelude.{codes}
-use Rattle.door_words.specs.Doors.{door_of}
+use Rattle.command_line.specs.Doors.{door_of}
 use Rattle.serve_words.specs.Plans.{value_of}
 use Rattle.serve_words.proofs.Doors.{door_step}
 use Rattle.serve_words.proofs.reading.read_doors.Goals as goal

@@ -1,5 +1,5 @@
 use Rattle.std.proofs.Common.{◌≡◌, ◌+◌, ◌≤◌, length}
-use Rattle.byte_pieces.specs.Pieces.{lines_of}
+use Rattle.pk_types.specs.Pieces.{lines_of}
 use Rattle.table_files.specs.Tables.{after_lines}
 use Rattle.table_files.proofs.table.read_lines.Given as goal
 

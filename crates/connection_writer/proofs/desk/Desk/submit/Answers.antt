@@ -16,4 +16,5 @@ invariant_of-self g c =
       e.names.1 ∙ i.3,
       subst (λ (n : ℕ). StandsAt limits n B.held B.faults B.pass (g.O.Sink.held new.sink.now) (g.O.Sink.faults new.sink.now) new.pass.now new.end) i.0
           (e.stands B.pass B.held B.faults (subst (λ (n : ℕ). StandsAt limits n B.held B.faults B.pass (g.O.Sink.held old.sink.now) (g.O.Sink.faults old.sink.now) old.pass.now old.end) (sym i.0) i.4)),
+      i.5,
     )

@@ -21,6 +21,9 @@ send_call-requires-clause-short g c κs within = c.requires.short
 pub send_call-requires-clause-serial : goal.send_call-requires-clause-serial
 send_call-requires-clause-serial g c κs within = omega arith
 
+pub send_call-requires-clause-free : goal.send_call-requires-clause-free
+send_call-requires-clause-free g c κs within = c.requires.free
+
 pub returns-in_err-send_call-clause-sends : goal.returns-in_err-send_call-clause-sends
 returns-in_err-send_call-clause-sends g c =
     sends_err (λ n. message_bytes false (under n (call_for c.args.call.now))) _ _ _ _ c.in_err-send_call.field-0.0 c.from_residual.ensures.1 c.self.view_is c.in_err-send_call.ensures.sends refl refl refl refl refl c.in_err-send_call.ensures.faults

@@ -27,6 +27,9 @@ call-requires-clause-short g c κs within = c.in_ok-message.ensures.short
 pub call-requires-clause-room : goal.call-requires-clause-room
 call-requires-clause-room g c κs within = c.requires.room
 
+pub call-requires-clause-free : goal.call-requires-clause-free
+call-requires-clause-free g c κs within = c.requires.free
+
 pub returns-in_err-call : goal.returns-in_err-call
 returns-in_err-call g c = record {
   consults = record {

@@ -8,8 +8,11 @@ use Rattle.script_agent.proofs.Fronts.{err_along}
 use Rattle.script_agent.proofs.Shaking.{helper_shaken, helper_unshaken, shaken, still_sound}
 use Rattle.script_agent.proofs.line.Line.introduce.Goals as goal
 
-pub shake-requires-after_bounds : goal.shake-requires-after_bounds
-shake-requires-after_bounds g c κs within = c.requires.rest
+pub shake-requires-clause-rest : goal.shake-requires-clause-rest
+shake-requires-clause-rest g c κs within = c.requires.rest
+
+pub shake-requires-clause-free : goal.shake-requires-clause-free
+shake-requires-clause-free g c κs within = c.requires.free
 
 pub returns-in_err-shake : goal.returns-in_err-shake
 returns-in_err-shake g c = record {
@@ -23,6 +26,9 @@ returns-in_err-shake g c = record {
 
 pub consult-requires-clause-room : goal.consult-requires-clause-room
 consult-requires-clause-room g c κs within = omega (arith, c.in_ok-shake.ensures.sent, c.requires.sent)
+
+pub consult-requires-clause-free : goal.consult-requires-clause-free
+consult-requires-clause-free g c κs within = c.requires.free
 
 pub returns : goal.returns
 returns g c = record {

@@ -11,8 +11,11 @@ use Rattle.script_agent.proofs.Shaking.{still_sound}
 use Rattle.script_agent.proofs.Steering.{registration_method}
 use Rattle.script_agent.proofs.line.Line.open.Goals as goal
 
-pub shake-requires-after_bounds : goal.shake-requires-after_bounds
-shake-requires-after_bounds g c κs within = c.requires.rest
+pub shake-requires-clause-rest : goal.shake-requires-clause-rest
+shake-requires-clause-rest g c κs within = c.requires.rest
+
+pub shake-requires-clause-free : goal.shake-requires-clause-free
+shake-requires-clause-free g c κs within = c.requires.free
 
 pub returns-in_err-shake : goal.returns-in_err-shake
 returns-in_err-shake g c = record {
@@ -37,6 +40,9 @@ call-requires-clause-short g c κs within = c.in_ok-message.ensures.short
 
 pub call-requires-clause-room : goal.call-requires-clause-room
 call-requires-clause-room g c κs within = omega (arith, c.in_ok-shake.ensures.sent, c.requires.sent)
+
+pub call-requires-clause-free : goal.call-requires-clause-free
+call-requires-clause-free g c κs within = c.requires.free
 
 pub returns-in_err-call : goal.returns-in_err-call
 returns-in_err-call g c = record {

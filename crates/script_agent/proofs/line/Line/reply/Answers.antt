@@ -18,6 +18,9 @@ send_reply-requires-clause-to g c κs within = c.requires.to
 pub send_reply-requires-clause-serial : goal.send_reply-requires-clause-serial
 send_reply-requires-clause-serial g c κs within = omega arith
 
+pub send_reply-requires-clause-free : goal.send_reply-requires-clause-free
+send_reply-requires-clause-free g c κs within = c.requires.free
+
 pub returns-in_err-send_reply-clause-sends : goal.returns-in_err-send_reply-clause-sends
 returns-in_err-send_reply-clause-sends g c =
     sends_err (λ n. message_bytes false (under n (reply_for c.args.reply c.args.to))) _ _ _ _ c.in_err-send_reply.field-0.0 c.from_residual.ensures.1 c.self.view_is c.in_err-send_reply.ensures.sends refl refl refl refl refl c.in_err-send_reply.ensures.faults

@@ -3,8 +3,11 @@ use Rattle.script_agent.specs.Lines.{LineNow}
 use Rattle.script_agent.proofs.Moves.{shakes_from, faults_from}
 use Rattle.script_agent.proofs.line.Line.shake.Goals as goal
 
-pub shake_hands-requires-after_bounds : goal.shake_hands-requires-after_bounds
-shake_hands-requires-after_bounds g c κs within = ap (λ (x : LineNow). x.rest) c.self.view_is ∙ c.requires
+pub shake_hands-requires-clause-empty : goal.shake_hands-requires-clause-empty
+shake_hands-requires-clause-empty g c κs within = ap (λ (x : LineNow). x.rest) c.self.view_is ∙ c.requires.rest
+
+pub shake_hands-requires-clause-free : goal.shake_hands-requires-clause-free
+shake_hands-requires-clause-free g c κs within = c.requires.free
 
 pub returns-clause-shakes : goal.returns-clause-shakes
 returns-clause-shakes g c = shakes_from c.args.uid _ _ _ _ _ _ _ c.self.view_is c.shake_hands.ensures.shakes

@@ -1,6 +1,6 @@
 -- The row is that of the line's fields.
 use Rattle.std.proofs.Common.{◌≡◌, List, map, Result, Ok, ap, sym, subst, ◌∙◌}
-use Rattle.byte_pieces.specs.Pieces.{pieces_of}
+use Rattle.pk_types.specs.Pieces.{pieces_of}
 use Rattle.table_files.specs.declared.fault.TableFault.{TableFault}
 use Rattle.table_files.specs.declared.kept.GroupTable.{GroupTable}
 use Rattle.table_files.specs.Faults.{◌>>=◌, Reads}

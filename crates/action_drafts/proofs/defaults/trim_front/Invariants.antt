@@ -1,9 +1,0 @@
-use Rattle.std.proofs.Common.{◌≡◌, length}
-use Rattle.action_drafts.specs.Defaults.{trim_front}
-use Rattle.action_drafts.proofs.defaults.trim_front.Given as goal
-
-abbrev pub invariant-loop-b : goal.invariant-loop-b
-invariant-loop-b l = trim_front l.rest ≡ trim_front l.bytes
-
-abbrev pub decreases-loop-b : goal.decreases-loop-b
-decreases-loop-b l = length l.rest

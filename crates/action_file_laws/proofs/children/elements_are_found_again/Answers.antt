@@ -1,5 +1,0 @@
-use Rattle.action_file_laws.proofs.NextAgain.{child_again}
-use Rattle.action_file_laws.proofs.children.elements_are_found_again.Goals as goal
-
-pub returns : goal.returns
-returns c = record { again = child_again }

@@ -1,5 +1,0 @@
-use Rattle.action_file_laws.proofs.NextAgain.{end_of_parent_again}
-use Rattle.action_file_laws.proofs.children.ends_are_found_again.Goals as goal
-
-pub returns : goal.returns
-returns c = record { again = end_of_parent_again }

@@ -1,5 +1,0 @@
-use Rattle.action_file_laws.proofs.DefaultsAgain.{defaults_element_again}
-use Rattle.action_file_laws.proofs.defaults.defaults_are_read_again.Goals as goal
-
-pub returns : goal.returns
-returns c = record { again = defaults_element_again }

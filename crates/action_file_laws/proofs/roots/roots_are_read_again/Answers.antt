@@ -1,5 +1,0 @@
-use Rattle.action_file_laws.proofs.RootAgain.{root_again}
-use Rattle.action_file_laws.proofs.roots.roots_are_read_again.Goals as goal
-
-pub returns : goal.returns
-returns c = record { again = root_again }

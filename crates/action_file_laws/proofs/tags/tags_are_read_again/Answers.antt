@@ -1,5 +1,0 @@
-use Rattle.action_file_laws.proofs.TagsAgain.{tag_again}
-use Rattle.action_file_laws.proofs.tags.tags_are_read_again.Goals as goal
-
-pub returns : goal.returns
-returns c = record { again = tag_again }

@@ -1,9 +1,0 @@
-use Rattle.action_file_laws.specs.TextElementForm.{attributes_of}
-use Rattle.action_file_laws.proofs.TextElementsAgain.{element_tag_again, element_text_again}
-use Rattle.action_file_laws.proofs.text_elements.text_elements_are_read_again.Goals as goal
-
-pub returns : goal.returns
-returns c = record {
-  start = element_tag_again;
-  text = λ name place rest e is_name is. element_text_again name place rest e.end_white (attributes_of e) e.inside is_name is.white.1 is.inside;
-}

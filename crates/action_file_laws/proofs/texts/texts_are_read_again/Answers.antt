@@ -1,5 +1,0 @@
-use Rattle.action_file_laws.proofs.TextsAgain.{bits_again}
-use Rattle.action_file_laws.proofs.texts.texts_are_read_again.Goals as goal
-
-pub returns : goal.returns
-returns c = record { again = bits_again }

@@ -1,5 +1,0 @@
-use Rattle.action_file_laws.proofs.ValuesAgain.{value_again}
-use Rattle.action_file_laws.proofs.values.values_are_read_again.Goals as goal
-
-pub returns : goal.returns
-returns c = record { again = value_again }

@@ -1,0 +1,5 @@
+pub mod Options
+pub mod CheckCommand
+pub mod CheckPlans
+pub mod AgentCommand
+pub mod AgentPlans

@@ -1,0 +1,203 @@
+// Decisions without an entry, and a call without a serial.
+ghost use Rattle.std.specs.Prelude.{◌<◌, IfOk};
+ghost use Rattle.authority_model.specs.Given.{IsStepped};
+
+use crate::calls::{decide, load, step};
+use authority_core::{Authority, Limits};
+use authority_model::{
+    Action, ActionList, Call, Decision, Event, Loaded, Process, ProcessList, RuleSource,
+};
+use pk_types::{Category, Implicit, List, NoMemory, Subject, Text};
+use std::alloc::Global;
+use std::test::Fail;
+use test_values::{action_id, text};
+
+const LIMITS: Limits = Limits {
+    entries: 1_048_576,
+    bytes: 536_870_912,
+};
+
+const ANY: RuleSource = RuleSource::Default(Category::Any);
+
+/// Pid, start and action, and what is decided.
+type Case = (u32, u64, &'static str, Option<Decision>);
+
+const DECISIONS: [Case; 6] = [
+    (1, 1, "a.no", Some(Decision::Root)),
+    (51, 8, "a.yes", Some(Decision::Yes(ANY))),
+    (51, 8, "a.no", Some(Decision::No(ANY))),
+    (
+        51,
+        8,
+        "a.admin",
+        Some(Decision::Challenge(Implicit::AuthAdmin, ANY)),
+    ),
+    (51, 8, "a.none", None),
+    (51, 9, "a.yes", None),
+];
+
+fn action(alloc: Global, id: &str, any: Implicit) -> Result<Action, NoMemory> {
+    let id = action_id(alloc, id)?;
+    Ok(Action::plain(alloc, id, any, any, any))
+}
+
+fn process(pid: u32, start: u64, uid: u32) -> Process {
+    Process {
+        pid,
+        start,
+        uid,
+        session: None,
+    }
+}
+
+/// Id and value of an action.
+const ACTIONS: [(&str, Implicit); 3] = [
+    ("a.yes", Implicit::Yes),
+    ("a.no", Implicit::No),
+    ("a.admin", Implicit::AuthAdmin),
+];
+
+fn some_actions(alloc: Global) -> Result<ActionList, NoMemory> {
+    let mut actions = List::new(alloc);
+    for (id, value) in ACTIONS {
+        actions.try_push(action(alloc, id, value)?)?;
+    }
+    Ok(actions)
+}
+
+/// Pid, start and uid of a process.
+const PROCESSES: [(u32, u64, u32); 3] = [(1, 1, 0), (51, 8, 1000), (60, 9, 1001)];
+
+fn some_processes(alloc: Global) -> Result<ProcessList, NoMemory> {
+    let mut processes = List::new(alloc);
+    for (pid, start, uid) in PROCESSES {
+        processes.try_push(process(pid, start, uid))?;
+    }
+    Ok(processes)
+}
+
+fn some_load(alloc: Global) -> Result<Loaded, NoMemory> {
+    let actions = some_actions(alloc)?;
+    let processes = some_processes(alloc)?;
+    let mut loaded = Loaded::empty(alloc);
+    loaded.policy.actions = actions;
+    loaded.world.processes = processes;
+    Ok(loaded)
+}
+
+fn check(alloc: Global, serial: u32, pid: u32, start: u64, id: &str) -> Result<Event, NoMemory>
+    ensures stepped { IfOk result IsStepped }
+{
+    let action = text(alloc, id)?;
+    Ok(Event::Call {
+        serial,
+        quiet: false,
+        call: Call::Check {
+            subject: Subject::Process { pid, start },
+            action,
+            details: List::new(alloc),
+            flags: 0,
+            cancel: Text::new(alloc),
+        },
+    })
+}
+
+/// Whether the first entry is a load, at moment 5.
+fn is_started(authority: &mut Authority, alloc: Global) -> Result<bool, NoMemory> {
+    let loaded = some_load(alloc)?;
+    Ok(load(authority, 5, loaded).ok() == Some(0))
+}
+
+/// Whether a decision is what its row says.
+fn is_decided(authority: &Authority, alloc: Global, row: &Case) -> Result<bool, NoMemory> {
+    let (pid, start, id, want) = *row;
+    let id = text(alloc, id)?;
+    Ok(decide(authority, &Subject::Process { pid, start }, &id) == want)
+}
+
+/// The case at a place.
+fn case_at(place: usize) -> Case
+    requires { place < 6 }
+{
+    DECISIONS[place]
+}
+
+/// The first case that is not decided as its row says.
+fn first_undecided(
+    authority: &Authority,
+    alloc: Global,
+) -> Result<Option<(u32, &'static str)>, NoMemory> {
+    for place in 0..6 {
+        let case = case_at(place);
+        if !is_decided(authority, alloc, &case)? {
+            return Ok(Some((case.0, case.2)));
+        }
+    }
+    Ok(None)
+}
+
+/// Whether the authority starts, and the first case that is decided wrongly.
+fn decided(
+    authority: &mut Authority,
+    alloc: Global,
+) -> Result<(bool, Option<(u32, &'static str)>), NoMemory> {
+    let started = is_started(authority, alloc)?;
+    Ok((started, first_undecided(authority, alloc)?))
+}
+
+/// The same of a new authority.
+fn decided_from_start(alloc: Global) -> Result<(bool, Option<(u32, &'static str)>), NoMemory> {
+    let mut authority = Authority::start(alloc, LIMITS)?;
+    decided(&mut authority, alloc)
+}
+
+#[test]
+fn decisions_are_told(rt: HostRuntime) -> Result<(), Fail> {
+    assert_eq!(rt; decided_from_start(rt.alloc())?, (true, None));
+    Ok(())
+}
+
+/// How many outputs the entry at a place has.
+fn outputs_at(authority: &Authority, place: u64) -> Option<usize> {
+    Some(authority.entry(place)?.outputs.len())
+}
+
+/// How many outputs a check of connection 1 with this serial has.
+fn outputs_of_check(
+    authority: &mut Authority,
+    alloc: Global,
+    serial: u32,
+) -> Result<Option<usize>, NoMemory> {
+    let event = check(alloc, serial, 51, 8, "a.yes")?;
+    Ok(match step(authority, 1, 3, event).ok() {
+        Some(place) => outputs_at(authority, place),
+        None => None,
+    })
+}
+
+/// Whether the authority starts, and how many outputs two checks have, the first of which has no
+/// serial.
+fn checked(
+    authority: &mut Authority,
+    alloc: Global,
+) -> Result<(bool, [Option<usize>; 2]), NoMemory> {
+    let started = is_started(authority, alloc)?;
+    let connected = step(authority, 1, 3, Event::Connect { uid: 1000 });
+    let is_connected = connected.ok().is_some();
+    let without = outputs_of_check(authority, alloc, 0)?;
+    let with = outputs_of_check(authority, alloc, 1)?;
+    Ok((started && is_connected, [without, with]))
+}
+
+/// The same of a new authority.
+fn checked_from_start(alloc: Global) -> Result<(bool, [Option<usize>; 2]), NoMemory> {
+    let mut authority = Authority::start(alloc, LIMITS)?;
+    checked(&mut authority, alloc)
+}
+
+#[test]
+fn a_call_without_a_serial_is_not_answered(rt: HostRuntime) -> Result<(), Fail> {
+    let wanted = (true, [Some(0), Some(1)]);
+    assert_eq!(rt; checked_from_start(rt.alloc())?, wanted);
+    Ok(())
+}

@@ -1,0 +1,15 @@
+pub mod Memory
+pub mod Readings
+pub mod Returned
+pub mod Tally
+pub mod Looks
+pub mod Held
+pub mod HeldLink
+pub mod HeldTree
+pub mod HeldWatched
+pub mod HeldFile
+pub mod HeldSights
+pub mod HeldClock
+pub mod HeldDoor
+pub mod HeldStation
+pub mod Empty

@@ -1,3 +1,0 @@
-pub mod Sorting
-pub mod PathTexts
-pub mod Gathered

@@ -1,0 +1,8 @@
+//! The line of `/proc/PID/stat`, as proc(5) has it: who a process is, and when it started.
+#![tactic(auto)]
+
+mod stat;
+#[cfg(test)]
+mod tests;
+
+pub use stat::{StatFault, StatLine, read_stat};

@@ -1,9 +1,0 @@
-use denote.Param.Send.{sendable}
-use Rattle.service_checks.proofs.Sends.{door_is_send, station_is_send}
-use Rattle.service_checks.proofs.memory.play.Goals as goal
-
-pub serve_named-requires-send-N : goal.serve_named-requires-send-N
-serve_named-requires-send-N g c κs within = search (station_is_send, sendable)
-
-pub serve_named-requires-send-N-Door : goal.serve_named-requires-send-N-Door
-serve_named-requires-send-N-Door g c κs within = search (door_is_send, sendable)

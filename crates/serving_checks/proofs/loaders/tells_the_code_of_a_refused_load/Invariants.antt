@@ -1,5 +1,0 @@
-use Rattle.serving_checks.proofs.loaders.tells_the_code_of_a_refused_load.Given as goal
-
--- the limits that are handed in
-abbrev pub ghosts-name_run : goal.ghosts-name_run
-ghosts-name_run g a = record { limits = a.limits }
