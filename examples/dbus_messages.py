@@ -7,8 +7,9 @@ NAME = 'org.freedesktop.PolicyKit1.'
 OBJECT = '/org/freedesktop/PolicyKit1/Authority'
 AUTHORITY, PROFILE = NAME + 'Authority', NAME + 'Profile'
 KINDS = {1: 'call', 2: 'return', 3: 'error', 4: 'signal'}
-FIELDS = {1: 'path', 2: 'interface', 3: 'member', 4: 'error', 5: 'answers', 8: 'signature'}
-FIELD_TYPES = {'path': 'o', 'interface': 's', 'member': 's', 'error': 's', 'answers': 'u', 'signature': 'g'}
+FIELDS = {1: 'path', 2: 'interface', 3: 'member', 4: 'error', 5: 'answers', 6: 'destination', 7: 'sender', 8: 'signature'}
+ORDERS = {108: '<', 66: '>'}
+FIELD_TYPES = {'path': 'o', 'interface': 's', 'member': 's', 'error': 's', 'answers': 'u', 'destination': 's', 'sender': 's', 'signature': 'g'}
 NUMBERS = {'y': (1, 'B'), 'b': (4, 'I'), 'n': (2, 'h'), 'q': (2, 'H'), 'i': (4, 'i'), 'u': (4, 'I'), 'x': (8, 'q'), 't': (8, 'Q'), 'd': (8, 'd')}
 
 # One message: its kind as in KINDS, its serial, its fields by their names, and its values.
@@ -50,7 +51,10 @@ class Writer:
     def number(self, letter, value):
         size, code = NUMBERS[letter]
         self.pad(size)
-        self.data += struct.pack('<' + code, value)
+        try:
+            self.data += struct.pack('<' + code, value)
+        except struct.error as fault:
+            raise ValueError(f'{value} is out of range') from fault
 
     def text(self, value, length='u'):
         text = value.encode()
@@ -157,6 +161,17 @@ def process(pid, start):
     return 'unix-process', {'pid': ('u', pid), 'start-time': ('t', start)}
 
 
+def user(uid):
+    """The identity that is a user."""
+    return 'unix-user', {'uid': ('u', uid)}
+
+
+def answer(message, serial, error=None):
+    """The bytes of an answer to a call: an empty return, or an error of this name."""
+    fields = {} if error is None else {'error': error}
+    return written('return' if error is None else 'error', serial, answers=message.serial, **fields)
+
+
 def check(serial, subject, action, ask=False, cancel=''):
     """The bytes of a call of CheckAuthorization. With `ask` the user may be asked."""
     return call(serial, 'CheckAuthorization', '(sa{sv})sa{ss}us', subject, action, {}, int(ask), cancel)
@@ -166,13 +181,15 @@ def length(data):
     """How many bytes the message has that begins so, or None where that does not show yet."""
     if len(data) < 16:
         return None
-    body, _, fields = struct.unpack_from({108: '<', 66: '>'}[data[0]] + 'III', data, 4)
+    if data[0] not in ORDERS:
+        raise ValueError('what came is not a message')
+    body, _, fields = struct.unpack_from(ORDERS[data[0]] + 'III', data, 4)
     return 16 + fields + -fields % 8 + body
 
 
 def read(data):
     """The message that these bytes are."""
-    order = {108: '<', 66: '>'}[data[0]]
+    order = ORDERS[data[0]]
     body, serial, _ = struct.unpack_from(order + 'III', data, 4)
     rows = Reader(data, order, 12).array('(yv)')
     fields = {FIELDS.get(code, code): value for code, value in rows}
@@ -192,7 +209,10 @@ class Link:
     def __init__(self, path, uid=None, seconds=None):
         self.socket = socket.socket(socket.AF_UNIX)
         self.socket.settimeout(seconds)
-        self.socket.connect(path)
+        try:
+            self.socket.connect(path)
+        except OSError as fault:
+            raise OSError(fault.errno, fault.strerror or str(fault), path) from None
         self.data = b''
         if uid is not None:
             self.shake(uid)
@@ -234,6 +254,16 @@ class Link:
                 return None
         front, self.data = self.data[:size], self.data[size:]
         return read(front)
+
+    def ask(self, member, types, *values, interface=AUTHORITY):
+        """Makes one call with the serial 1, and passes over what comes before its answer. Answers that, where it is no error."""
+        self.send(call(1, member, types, *values, interface=interface))
+        while (message := self.next()) is not None:
+            if message.fields.get('answers') == 1:
+                if message.kind == 'error':
+                    raise ValueError(' '.join([message.fields['error'], *map(str, message.values)]))
+                return message
+        raise ValueError('the daemon closed the connection')
 
     def close(self):
         self.socket.close()
