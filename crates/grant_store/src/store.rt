@@ -1,0 +1,130 @@
+// The temporary authorizations that nothing ended, and the change of them that is staged.
+ghost use Rattle.std.specs.Prelude.{◌≡◌, ◌<◌, ◌==◌, [], None, Some, IsSome, find, length, slice_get, OnOk, OnErr, IfOk};
+ghost use Rattle.std.specs.Option.{option_copied, option_map};
+ghost use Rattle.authority_model.specs.declared.verdict.GrantRow.{GrantRow as TheRow};
+ghost use Rattle.entry_changes.specs.declared.change.GrantChange.{GrantChange as TheChange};
+ghost use Rattle.entry_changes.specs.declared.change.GrantChange.TheVariants.{Add};
+ghost use Rattle.authority_model.specs.Lists.{Each};
+ghost use Rattle.authority_model.specs.Keys.{key_seen};
+ghost use Rattle.authority_model.specs.Deciding.{serves};
+ghost use Rattle.entry_changes.specs.Changes.{after_grants, grant_named};
+
+use crate::rows::GrantRows;
+use crate::staged::{carry, prepare};
+use authority_model::{Entry, GrantRow, KeyRef, World};
+use entry_changes::GrantChange;
+use pk_types::{NoMemory, Text};
+use std::alloc::Global;
+use std::marker::Model;
+
+/// The temporary authorizations that nothing ended, by rising number, and the change of them that is staged.
+/// Some of them may have expired (TemporaryAuthorization in the reference manual).
+#[derive(Drop)]
+pub struct GrantStore {
+    rows: GrantRows,
+    staged: Option<GrantChange>,
+}
+
+impl Model for GrantStore {
+    ghost use Rattle.grant_store.specs.Store.{Grants, IsReady};
+
+    ghost Value = { Grants };
+
+    ghost view = { λ a. record { items = a.rows.items; staged = a.staged } };
+
+    ghost invariant = { λ a. IsReady a.rows.room a.staged };
+}
+
+impl GrantStore {
+    /// No temporary authorizations. It takes no memory.
+    pub fn new(alloc: Global) -> Result<GrantStore, NoMemory>
+        ensures items { IfOk result (λ store. store.items ≡ []) }
+        ensures none { IfOk result (λ store. store.staged ≡ None) }
+    {
+        Ok(GrantStore {
+            rows: GrantRows::new(alloc),
+            staged: None,
+        })
+    }
+
+    /// The number of the least one that is for a subject and an action and has not expired at a moment.
+    pub fn live(&self, key: KeyRef, action: &Text, moment: u64) -> Option<u64>
+        ensures id { result ≡ option_map (λ g. g.id) (find (serves (key_seen key.entry) action.now moment) self.now.items) }
+    {
+        let row = self.rows.serving(key, action, moment)?;
+        Some(row.id)
+    }
+
+    /// The least one that is for a subject and an action and has not expired at a moment.
+    pub fn live_row(&self, key: KeyRef, action: &Text, moment: u64) -> Option<&GrantRow>
+        ensures row { option_copied result ≡ find (serves (key_seen key.entry) action.now moment) self.now.items }
+    {
+        self.rows.serving(key, action, moment)
+    }
+
+    /// The one with this number.
+    pub fn of_id(&self, id: u64) -> Option<&GrantRow>
+        ensures row { option_copied result ≡ find (λ g. g.id == id) self.now.items }
+    {
+        self.rows.of_id(id)
+    }
+
+    /// The one that a text names, which is `tmpauthz` and its number; it may have expired.
+    pub fn of_text(&self, text: &Text) -> Option<&GrantRow>
+        ensures row { option_copied result ≡ grant_named text.now self.now.items }
+    {
+        self.rows.of_text(text)
+    }
+
+    /// How many there are.
+    pub fn len(&self) -> usize
+        ensures length { result ≡ length self.now.items }
+    {
+        self.rows.len()
+    }
+
+    /// The one at a place by rising number.
+    pub fn nth(&self, i: usize) -> Option<&GrantRow>
+        ensures row { option_copied result ≡ slice_get self.now.items i }
+    {
+        self.rows.nth(i)
+    }
+
+    /// Takes all memory that an entry with this change needs. Nothing is staged after a refusal, and the
+    /// temporary authorizations stay.
+    ///
+    /// # Errors
+    /// `NoMemory` alone.
+    pub fn stage(&mut self, _entry: &Entry, change: GrantChange) -> Result<(), NoMemory>
+        ensures items { self.new.items ≡ self.old.items }
+        ensures ok { OnOk result (self.new.staged ≡ Some change) }
+        ensures err { OnErr result (self.new.staged ≡ None) }
+    {
+        self.unstage();
+        prepare(&mut self.rows, &change)?;
+        self.staged = Some(change);
+        Ok(())
+    }
+
+    /// Drops what is staged. It takes no memory.
+    pub fn unstage(&mut self)
+        ensures items { self.new.items ≡ self.old.items }
+        ensures none { self.new.staged ≡ None }
+    {
+        self.staged = None;
+    }
+
+    /// Carries the temporary authorizations on by an entry with the change that is staged, in the world that
+    /// is in force after the entry. It takes no memory.
+    pub fn apply_entry(&mut self, entry: &Entry, world: &World)
+        requires staged { IsSome self.old.staged }
+        requires fresh { (g : TheRow) → self.old.staged ≡ Some (Add g) → Each (λ r. r.id < g.id) self.old.items }
+        ensures items { (change : TheChange) → self.old.staged ≡ Some change → self.new.items ≡ after_grants entry.now world.now change self.old.items }
+        ensures none { self.new.staged ≡ None }
+    {
+        match self.staged.take() {
+            Some(change) => carry(&mut self.rows, entry, world, change),
+            None => unreachable!(),
+        }
+    }
+}

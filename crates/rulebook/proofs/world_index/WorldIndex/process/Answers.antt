@@ -1,0 +1,11 @@
+use Rattle.std.proofs.Common.{sym, ap, ◌∙◌, ◌==◌, ◌&&◌, slice_get, option_and_then}
+use Rattle.rulebook.proofs.Firsts.{find-place}
+use Rattle.rulebook.proofs.world_index.WorldIndex.process.Goals as goal
+
+pub returns-in-Some : goal.returns-in-Some
+returns-in-Some c =
+    record { first = c.get.ensures.item ∙ ap (option_and_then (slice_get c.args.world.now.processes)) (c.in-Some.ensures.place ∙ c.requires.index.processes c.args.pid c.args.start) ∙ sym (find-place (λ row. (row.pid == c.args.pid) && (row.start == c.args.start)) c.args.world.now.processes) }
+
+pub returns-in-None : goal.returns-in-None
+returns-in-None c =
+    record { first = ap (option_and_then (slice_get c.args.world.now.processes)) (c.in-None.ensures.place ∙ c.requires.index.processes c.args.pid c.args.start) ∙ sym (find-place (λ row. (row.pid == c.args.pid) && (row.start == c.args.start)) c.args.world.now.processes) }

@@ -1,0 +1,3 @@
+pub mod Rules
+pub mod Indexes
+pub mod WorldIndexes

@@ -1,0 +1,16 @@
+// Annotations of actions, and the words in them.
+ghost use Rattle.std.specs.Prelude.{◌≡◌};
+ghost use Rattle.authority_model.specs.Rules as rules;
+
+use crate::words::has_word;
+use authority_model::Action;
+
+/// Whether an annotation has this word among its words.
+pub fn annotates(action: &Action, key: &[u8], word: &[u8]) -> bool
+    ensures annotates { result ≡ rules.annotates action.now key.now word.now }
+{
+    match action.annotation(key) {
+        Some(text) => has_word(text.bytes(), word),
+        None => false,
+    }
+}
