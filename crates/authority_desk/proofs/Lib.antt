@@ -1,0 +1,5 @@
+pub mod Counting
+pub mod Carrying
+pub mod Viewing
+pub mod Entering
+pub mod Stepping
