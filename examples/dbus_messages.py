@@ -247,16 +247,24 @@ class Link:
         front, _, self.data = self.data.partition(end)
         return front
 
+    def has_message(self):
+        """Whether a whole message has come."""
+        size = length(self.data)
+        return size is not None and len(self.data) >= size
+
     def next(self):
         """The next message, or None where the connection ends first."""
-        while (size := length(self.data)) is None or len(self.data) < size:
+        while not self.has_message():
             if not self.more():
                 return None
+        size = length(self.data)
         front, self.data = self.data[:size], self.data[size:]
         return read(front)
 
     def ask(self, member, types, *values, interface=AUTHORITY):
-        """Makes one call with the serial 1, and passes over what comes before its answer. Answers that, where it is no error."""
+        """Makes one call with the serial 1, and passes over what comes before its answer. Answers that, where it is not an error."""
+        if not self.is_accepted():
+            raise ValueError('the daemon does not accept the user')
         self.send(call(1, member, types, *values, interface=interface))
         while (message := self.next()) is not None:
             if message.fields.get('answers') == 1:
@@ -267,3 +275,34 @@ class Link:
 
     def close(self):
         self.socket.close()
+
+
+class Agent(Link):
+    """A connection that is the agent of a session. `waiting` has, by their cookies, the questions that are not answered or cancelled yet."""
+
+    def __init__(self, path, uid, session, object_path='/examples/agent'):
+        super().__init__(path, uid)
+        self.waiting = {}
+        self.ask('RegisterAuthenticationAgent', '(sa{sv})ss', ('unix-session', {'session-id': ('s', session)}), 'C', object_path)
+
+    def take(self):
+        """Takes the next message, and answers it, or None where the connection ends first. Then no question waits."""
+        message = self.next()
+        if message is None:
+            self.waiting.clear()
+        elif message.fields.get('member') == 'BeginAuthentication':
+            self.waiting[message.values[4]] = message
+        elif message.fields.get('member') == 'CancelAuthentication':
+            self.waiting.pop(message.values[0], None)
+        return message
+
+    def questions(self):
+        """Each question with its cookie, once the one before it does not wait any more, to the end of the connection."""
+        while self.waiting or self.take():
+            yield from [*self.waiting.items()][:1]
+
+    def reply(self, cookie, error=None):
+        """Answers a question that still waits: empty, or with an error of polkit by the last part of its name."""
+        question = self.waiting.pop(cookie, None)
+        if question is not None:
+            self.send(answer(question, question.serial + 1, error and f'{NAME}Error.{error}'))

@@ -232,7 +232,7 @@ def by_terminal(told, bus, pid):
     if without(told, 'pkttyagent', 'pkcheck'):
         return
     registered, tells = os.pipe()
-    subject, asking = f'{pid},{start_of(pid)}', f'==== AUTHENTICATING FOR {SET} ===='.encode()
+    subject, asking = f'{pid},{start_of(pid)}', f'==== AUTHENTICATING FOR {SET} ==='.encode()
     agent, terminal = pty.fork()
     if not agent:
         os.set_inheritable(tells, True)
