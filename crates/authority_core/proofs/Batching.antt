@@ -1,7 +1,7 @@
 -- The outputs and the loads of a journal, as its entries and its list of loads have them.
 use Rattle.std.proofs.Common.{◌≡◌, ℕ, zero, suc, ◌+◌, ◌<◌, ◌≤◌, ◌==◌, Bool, true, false, List, [], ◌∷◌, ◌++◌, refl, ap, sym, ◌∙◌, subst, Option, Some, None, length, take, drop, get_or, max, arith}
-use Rattle.std.specs.Prelude.{if◌then◌else◌, reverse, slice_get, option_and_then}
-use Rattle.std.proofs.lemmas.List.{append_assoc, append-nil, reverse-append, length-append, take_all, take_more}
+use Rattle.std.specs.Prelude.{◌-◌, if◌then◌else◌, reverse, slice_get, option_and_then, option_map}
+use Rattle.std.proofs.lemmas.List.{append_assoc, append-nil, reverse-append, reverse-reverse, take_all, take_more}
 use Rattle.std.proofs.lemmas.Bool.Decides.{nat_tests}
 use Rattle.authority_model.specs.declared.journal.Entry.{Entry}
 use Rattle.authority_model.specs.declared.journal.History.{History}
@@ -12,12 +12,14 @@ use Rattle.authority_model.specs.declared.message.Output.{Output}
 use Rattle.authority_model.specs.Entering.{AreAllowed, is_full}
 use Rattle.authority_model.specs.Items.{items_of, is_load, pair_up, paired}
 use Rattle.authority_model.specs.Legal.{Legal}
-use Rattle.authority_model.specs.Sent.{batch, collected}
+use Rattle.authority_model.specs.Sent.{batch, collected, sent_to}
 use Rattle.authority_model.proofs.Pairing.{load_count, count_one}
 use Rattle.authority_laws.specs.Batches.{AreSendable, IsBatch, greatest_load, load_of, loads_in, with_load}
 use Rattle.authority_laws.proofs.Batching.{takes_batch}
 use Rattle.authority_core.specs.declared.collecting.Batch.{Batch}
-use Rattle.journal_state.specs.Placed.{output_at}
+use Rattle.authority_core.specs.Collecting.{numbered_output}
+use Rattle.peer_book.specs.Book.{Peers}
+use Rattle.peer_book.specs.Places.{output_at, pair_of, place_at, places_of}
 
 -- the oldest item's load comes first
 loads_in-push : (xs : List Item) (y : Item) → loads_in (xs ++ y ∷ []) ≡ with_load [] y.loaded ++ loads_in xs
@@ -58,33 +60,6 @@ batch_is limits h by c b legal named allowed room from outputs loads =
       sendable = λ other. subst AreSendable (sym outputs) (whole.sendable other);
     }
 
--- the output at a place, behind one item that is older than the others
-at_first : (ys : List Item) (x : Item) (k : ℕ) → output_at (ys ++ x ∷ []) (record { entry = 0; output = k }) ≡ slice_get x.entry.outputs k
-at_first [] x k = refl
-at_first (y ∷ ys) x k =
-    let size : length (ys ++ x ∷ []) ≡ length ys + 1 = length-append ys (x ∷ []) in
-    let later : (0 == length (ys ++ x ∷ [])) ≡ false = grind (arith, nat_tests) in
-    ap (λ b. if b then slice_get y.entry.outputs k else output_at (ys ++ x ∷ []) (record { entry = 0; output = k })) later ∙ at_first ys x k
-
-at_later : (ys : List Item) (x : Item) (n k : ℕ) → output_at (ys ++ x ∷ []) (record { entry = n + 1; output = k }) ≡ output_at ys (record { entry = n; output = k })
-at_later [] x n k =
-    let past : (n + 1 == 0) ≡ false = grind (arith, nat_tests) in
-    ap (λ b. if b then slice_get x.entry.outputs k else None) past
-at_later (y ∷ ys) x n k =
-    let size : length (ys ++ x ∷ []) ≡ length ys + 1 = length-append ys (x ∷ []) in
-    let same : (n + 1 == length (ys ++ x ∷ [])) ≡ (n == length ys) = ap (λ m. n + 1 == m) size ∙ grind (arith, nat_tests) in
-    ap (λ b. if b then slice_get y.entry.outputs k else output_at (ys ++ x ∷ []) (record { entry = n + 1; output = k })) same
-    ∙ ap (λ o. if n == length ys then slice_get y.entry.outputs k else o) (at_later ys x n k)
-
--- the output at a place among items, the oldest first
-at_items : (xs : List Item) (n k : ℕ) → output_at (reverse xs) (record { entry = n; output = k }) ≡ option_and_then (λ (i : Item). slice_get i.entry.outputs k) (slice_get xs n)
-at_items [] n k = refl
-at_items (x ∷ xs) zero k = ap (λ ys. output_at ys (record { entry = 0; output = k })) (reverse-append (x ∷ []) xs) ∙ at_first (reverse xs) x k
-at_items (x ∷ xs) (suc n) k =
-    let next : suc n ≡ n + 1 = omega arith in
-    ap (λ ys. output_at ys (record { entry = suc n; output = k })) (reverse-append (x ∷ []) xs)
-    ∙ ap (λ m. output_at (reverse xs ++ x ∷ []) (record { entry = m; output = k })) next ∙ at_later (reverse xs) x n k ∙ at_items xs n k
-
 in_entries : (es : List Entry) (ls : List Loaded) (n k : ℕ) → option_and_then (λ (i : Item). slice_get i.entry.outputs k) (slice_get (paired es ls) n) ≡ option_and_then (λ (e : Entry). slice_get e.outputs k) (slice_get es n)
 in_entries [] ls n k = refl
 in_entries (e ∷ es) ls n k = go (is_load e.event) ls n (λ ls n. in_entries es ls n k)
@@ -99,8 +74,24 @@ in_entries (e ∷ es) ls n k = go (is_load e.event) ls n (λ ls n. in_entries es
     go true (l ∷ ls) (suc n) ih = ih ls n
 
 -- the output of a journal at a place is that of its entry
-pub placed_output : (h : History) (n k : ℕ) → output_at (items_of h) (record { entry = n; output = k }) ≡ option_and_then (λ (e : Entry). slice_get e.outputs k) (slice_get h.entries n)
-placed_output h n k = at_items (paired h.entries h.loads) n k ∙ in_entries h.entries h.loads n k
+pub placed_output : (h : History) (n k : ℕ) → output_at (items_of h) (n, k) ≡ option_and_then (λ (e : Entry). slice_get e.outputs k) (slice_get h.entries n)
+placed_output h n k =
+    ap (λ (xs : List Item). option_and_then (λ (i : Item). slice_get i.entry.outputs k) (slice_get xs n)) (reverse-reverse (paired h.entries h.loads))
+    ∙ in_entries h.entries h.loads n k
+
+-- the place of an output of this number shows the output of this number
+pub numbered : (past : List Item) (t : Peers) (c k : ℕ) (p : ℕ × ℕ) → Some p ≡ option_map pair_of (place_at (places_of t.places c) k) → (0 < k → output_at past p ≡ slice_get (sent_to past c) (k - 1)) → output_at past p ≡ numbered_output past c k
+numbered past t c zero p is shows = absurd (cc)
+numbered past t c (suc k) p is shows =
+    let test : (suc k == 0) ≡ false = grind (arith, nat_tests) in
+    shows (omega arith) ∙ sym (ap (λ b. if b then None else slice_get (sent_to past c) (suc k - 1)) test)
+
+-- the output behind so many others
+pub numbered_next : (past : List Item) (c n : ℕ) → numbered_output past c (n + 1) ≡ slice_get (sent_to past c) n
+numbered_next past c n =
+    let test : (n + 1 == 0) ≡ false = grind (arith, nat_tests) in
+    let back : n + 1 - 1 ≡ n = omega arith in
+    ap (λ b. if b then None else slice_get (sent_to past c) (n + 1 - 1)) test ∙ ap (slice_get (sent_to past c)) back
 
 -- the outputs from one number on, one more of them
 pub part_more : (xs : List Output) (first n : ℕ) (x : Output) → first ≤ n → slice_get xs n ≡ Some x → drop first (take (n + 1) xs) ≡ drop first (take n xs) ++ x ∷ []

@@ -1,2 +1,4 @@
 pub mod Growing
 pub mod Batching
+pub mod Held
+pub mod Readiness

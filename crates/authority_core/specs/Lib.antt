@@ -1,5 +1,5 @@
-pub mod Sound
 pub mod Journal
 pub mod Refusals
 pub mod Collecting
+pub mod Entered
 pub mod Kept

@@ -7,20 +7,21 @@ ghost use Rattle.authority_model.specs.Legal.{IsLegal, last_moment};
 ghost use Rattle.authority_model.specs.Licensed.{AllLicensed};
 ghost use Rattle.authority_model.specs.Deciding.{decision as decision_on, told_decision};
 ghost use Rattle.authority_model.specs.Grants.{kept};
-ghost use Rattle.authority_model.specs.Given.{IsProperEvent, IsStepped, event_given, load_given, next, Grows};
+ghost use Rattle.authority_model.specs.Given.{IsStepped, event_given, load_given, next, Grows};
 ghost use Rattle.authority_model.specs.Sent.{is_ready};
+ghost use Rattle.authority_desk.specs.Seen.{IsDeskFor};
 ghost use Rattle.authority_core.specs.Collecting.{numbered_output};
 
 use crate::collecting::{Batch, CollectStepRefused, batch_of, output_to};
-use crate::entering::{enter, enter_load, load_in_force, next_load};
+use crate::entering::{enter, enter_collect, enter_load};
+use authority_desk::Desk;
 use authority_model::{Decision, Entry, Event, History, Limits, Loaded, Output};
-use check_decision::decision;
-use journal_answers::{load_outputs, outputs};
-use journal_costs::{cost_of_entry, cost_of_load};
-use journal_state::{State, facts_of};
+use journal_costs::cost_of_load;
+use journal_view::{JournalView, facts};
 use pk_types::{List, NoMemory, Subject, Text};
 use std::alloc::Global;
 use std::marker::Model;
+use view_decision::decision;
 
 /// Why an event was refused. It comes back, and nothing has changed.
 #[derive(Drop)]
@@ -58,12 +59,9 @@ pub struct Authority {
     history: History,
     /// The counted bytes of the journal.
     bytes: u64,
-    /// The greatest moment handed in so far.
-    moment: u64,
-    /// Load 0, which is in force until the first load.
-    empty: Loaded,
-    /// The state of the journal's history, kept from entry to entry.
-    state: State,
+    /// The desk stands for the journal: it answers each event, and nothing else is kept of it. It has a
+    /// box of its own, so that what drops an authority is proved to drop its tables once, and apart.
+    desk: Box<Desk>,
 }
 
 impl Model for Authority {
@@ -74,7 +72,7 @@ impl Model for Authority {
 
     ghost view = { λ a. record { history = a.history; limits = a.limits } };
 
-    ghost invariant = { λ a. IsKept a.history a.limits a.bytes a.moment a.empty a.state };
+    ghost invariant = { λ a. IsKept a.history a.limits a.bytes a.desk.value };
 }
 
 impl Authority {
@@ -94,9 +92,7 @@ impl Authority {
                 loads: List::new(alloc),
             },
             bytes: 0,
-            moment: 0,
-            empty: Loaded::empty(alloc),
-            state: State::start(alloc),
+            desk: Box::new(alloc, Desk::start(alloc)?)?,
         })
     }
 
@@ -160,66 +156,21 @@ impl Authority {
                 event,
             });
         }
-        match self.append(caller, moment, salt, event) {
-            Ok(place) => Ok(place),
-            Err(event) => Err(StepRefused::NoMemory { event }),
-        }
-    }
-
-    /// Adds the entry of an event that is not a load, where there is room for it, and answers its place.
-    /// A refusal gives the event back, and leaves the authority as it was.
-    fn append(&mut self, caller: u32, moment: u64, salt: u128, event: Event) -> Result<u64, Event>
-        requires room { is_full self.old.limits (items_of self.old.history) ≡ false }
-        requires event { IsProperEvent (event_given caller moment salt event) event }
-        requires moment { moment ≤ 2 ^ 62 }
-        ensures place { IfOk result (λ place. place ≡ length self.old.history.entries) }
-        ensures grows { OnOk result (Grows self.old.history self.new.history (event_given caller moment salt event)) }
-        ensures entry { OnOk result (self.new.history.entries ≡ self.old.history.entries ++ (next (items_of self.old.history) (event_given caller moment salt event)).entry ∷ []) }
-        ensures loads { OnOk result (self.new.history.loads ≡ self.old.history.loads) }
-
-        ensures limits { self.new.limits ≡ self.old.limits }
-        ensures err { OnErr result (self.new ≡ self.old) }
-        ensures legal { IsLegal self.new.history }
-        ensures back { IfErr result (λ back. back ≡ event) }
-    {
-        let loads = self.history.loads.len() as u32;
-        let in_force = load_in_force(self.history.loads.as_slice(), &self.empty);
-        let moment = self.moment.max(moment);
-        let outputs = match outputs(
+        let place = self.history.entries.len() as u64;
+        match enter(
             self.alloc,
-            &self.state,
-            in_force,
-            loads,
-            caller,
-            moment,
-            salt,
-            &event,
-        ) {
-            Ok(outputs) => outputs,
-            Err(NoMemory) => return Err(event),
-        };
-        let entry = Entry {
+            &mut self.history.entries,
+            self.desk.as_mut(),
             caller,
             moment,
             salt,
             event,
-            outputs,
-        };
-        let cost = cost_of_entry(&entry);
-        let place = self.history.entries.len();
-        match enter(
-            &mut self.history.entries,
-            &mut self.state,
-            in_force,
-            entry,
-            None,
         ) {
-            Ok(()) => {
+            Ok(cost) => {
                 self.bytes += cost;
-                self.moment = moment;
-                Ok(place as u64)
+                Ok(place)
             }
-            Err(entry) => Err(entry.event),
+            Err(event) => Err(StepRefused::NoMemory { event }),
         }
     }
 
@@ -227,7 +178,7 @@ impl Authority {
     pub fn sent_count(&self, caller: u32) -> u32
         ensures count { result ≡ sent (items_of self.now.history) caller }
     {
-        self.state.sent.count(caller) as u32
+        self.desk.as_ref().peers().sent_count(caller)
     }
 
     /// The output that has this number among those to a connection, counted from 1. `None` exactly
@@ -235,8 +186,7 @@ impl Authority {
     pub fn output_to(&self, caller: u32, number: u32) -> Option<&Output>
         ensures output { option_copied result ≡ numbered_output (items_of self.now.history) caller number }
     {
-        let before = number.checked_sub(1)?;
-        output_to(&self.history, &self.state, caller, u64::from(before))
+        output_to(&self.history, self.desk.as_ref().peers(), caller, number)
     }
 
     /// Whether a caller may collect the outputs to a connection: there is one that it has not collected,
@@ -244,9 +194,8 @@ impl Authority {
     pub fn ready(&self, caller: u32, of: u32) -> bool
         ensures ready { result ≡ is_ready (items_of self.now.history) caller of }
     {
-        let collected = self.state.collections.count(caller, of);
-        let sent = self.state.sent.count(of);
-        collected < sent || self.state.connections.is_departed(of)
+        let peers = self.desk.as_ref().peers();
+        peers.collected(caller, of) < peers.sent_count(of) || peers.departed(of)
     }
 
     /// Adds the entry of a Collect, and answers the outputs to a connection that the caller has not
@@ -275,13 +224,27 @@ impl Authority {
                 bytes: self.bytes,
             });
         }
-        let batch = match batch_of(self.alloc, &self.history, &self.state, caller, of) {
-            Ok(batch) => batch,
-            Err(NoMemory) => return Err(CollectStepRefused::NoMemory),
+        let Ok(batch) = batch_of(
+            self.alloc,
+            &self.history,
+            self.desk.as_ref().peers(),
+            caller,
+            of,
+        ) else {
+            return Err(CollectStepRefused::NoMemory);
         };
-        match self.append(caller, 0, 0, Event::Collect { of }) {
-            Ok(_) => Ok(batch),
-            Err(_) => Err(CollectStepRefused::NoMemory),
+        match enter_collect(
+            self.alloc,
+            &mut self.history.entries,
+            self.desk.as_mut(),
+            caller,
+            of,
+        ) {
+            Ok(cost) => {
+                self.bytes += cost;
+                Ok(batch)
+            }
+            Err(NoMemory) => Err(CollectStepRefused::NoMemory),
         }
     }
 
@@ -311,34 +274,19 @@ impl Authority {
                 loaded,
             });
         }
-        let Some(number) = next_load(&self.history.loads, &loaded) else {
-            return Err(LoadStepRefused::NoMemory { loaded });
-        };
-        let outputs = match load_outputs(self.alloc, &self.state, &loaded.world) {
-            Ok(outputs) => outputs,
-            Err(NoMemory) => return Err(LoadStepRefused::NoMemory { loaded }),
-        };
-        let greatest = self.moment.max(moment);
-        let entry = Entry {
-            caller,
-            moment: greatest,
-            salt: 0,
-            event: Event::Load { load: number },
-            outputs,
-        };
-        let cost = cost_of_entry(&entry) + cost_of_load(&loaded);
-        let place = self.history.entries.len();
+        let place = self.history.entries.len() as u64;
+        let cost_of_loaded = cost_of_load(&loaded);
         match enter_load(
+            self.alloc,
             &mut self.history,
-            &mut self.state,
-            &self.empty,
-            entry,
+            self.desk.as_mut(),
+            caller,
+            moment,
             loaded,
         ) {
-            Ok(()) => {
-                self.bytes += cost;
-                self.moment = greatest;
-                Ok(place as u64)
+            Ok(cost) => {
+                self.bytes += cost + cost_of_loaded;
+                Ok(place)
             }
             Err(loaded) => Err(LoadStepRefused::NoMemory { loaded }),
         }
@@ -350,13 +298,17 @@ impl Authority {
     pub fn decide(&self, moment: u64, subject: &Subject, id: &Text) -> Option<Decision>
         ensures decision { result ≡ option_map (told_decision (policy_of (items_of self.now.history))) (decision_on (items_of self.now.history) (kept (items_of self.now.history)) (max (last_moment (items_of self.now.history)) moment) subject.now id.now) }
     {
-        let in_force = load_in_force(self.history.loads.as_slice(), &self.empty);
-        let facts = facts_of(&self.state.connections, &in_force.world, subject)?;
-        let latest = self.moment.max(moment);
-        let grants = self.state.grants.as_slice();
-        match decision(in_force, grants, &facts, latest, id) {
-            Some(decision) => Some(decision.told(&in_force.policy)),
-            None => None,
-        }
+        let view = self.desk.as_ref().view();
+        let facts = facts(view, subject)?;
+        let latest = self.desk.as_ref().numbers().moment_at(moment);
+        let decision = decision(view, &facts, latest, id)?;
+        Some(decision.told(&view.loaded().policy))
+    }
+
+    /// The desk that stands for the journal. It takes no memory.
+    pub fn desk(&self) -> &Desk
+        ensures desk { IsDeskFor (items_of self.now.history) result.now }
+    {
+        self.desk.as_ref()
     }
 }

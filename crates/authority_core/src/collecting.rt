@@ -4,12 +4,13 @@ ghost use Rattle.std.specs.Option.{option_copied};
 ghost use Rattle.authority_model.specs.Items.{items_of, sent};
 ghost use Rattle.authority_model.specs.Sent.{batch, collected, sent_to};
 ghost use Rattle.authority_laws.specs.Batches.{load_of, greatest_load};
-ghost use Rattle.journal_state.specs.States.{IsStateOf};
+ghost use Rattle.peer_book.specs.Book.{IsPeersOf};
+ghost use Rattle.authority_core.specs.Collecting.{numbered_output};
 ghost use Rattle.pk_types.specs.declared.decimals.TheConstants.{MAX_NUMBER};
 
 use crate::copies::copy_of;
 use authority_model::{Answer, History, Loaded, LoadedList, Message, Output, OutputList};
-use journal_state::State;
+use peer_book::PeerBook;
 use pk_types::{List, NoMemory, TryCopy};
 use std::alloc::Global;
 
@@ -34,38 +35,38 @@ pub enum CollectStepRefused {
     NoMemory,
 }
 
-/// The output of a journal that has this number among those to a connection, counted from 0, and
-/// `None` exactly where there are no more than so many.
+/// The output of a journal that has this number among those to a connection, counted from 1, and
+/// `None` exactly where the number is 0 or there are fewer.
 pub fn output_to<'a>(
     history: &'a History,
-    state: &State,
+    peers: &PeerBook,
     caller: u32,
-    number: u64,
+    number: u32,
 ) -> Option<&'a Output>
-    requires state { IsStateOf (items_of history.now) state.now }
-    ensures output { option_copied result ≡ slice_get (sent_to (items_of history.now) caller) number }
+    requires peers { IsPeersOf (items_of history.now) peers.now }
+    ensures output { option_copied result ≡ numbered_output (items_of history.now) caller number }
 {
-    let place = state.sent.place(caller, number)?;
-    let entry = history.entries.get(place.entry as usize)?;
-    entry.outputs.get(place.output as usize)
+    let (place, output) = peers.place(caller, number)?;
+    let entry = history.entries.get(place as usize)?;
+    entry.outputs.get(output as usize)
 }
 
 /// Copies of the outputs of a journal to a connection, without so many of the first of them.
 fn outputs_from(
     alloc: Global,
     history: &History,
-    state: &State,
+    peers: &PeerBook,
     caller: u32,
-    first: u64,
+    first: u32,
 ) -> Result<OutputList, NoMemory>
-    requires state { IsStateOf (items_of history.now) state.now }
+    requires peers { IsPeersOf (items_of history.now) peers.now }
     requires first { first ≤ sent (items_of history.now) caller }
     ensures outputs { IfOk result (λ outputs. outputs ≡ drop first (sent_to (items_of history.now) caller)) }
 {
-    let count = state.sent.count(caller);
+    let count = peers.sent_count(caller);
     let mut outputs = List::new(alloc);
-    for number in first..count {
-        let Some(output) = output_to(history, state, caller, number) else {
+    for before in first..count {
+        let Some(output) = output_to(history, peers, caller, before + 1) else {
             unreachable!();
         };
         outputs.try_push(copy_of(output)?)?;
@@ -113,22 +114,22 @@ fn first_loads(alloc: Global, loads: &[Loaded], number: u32) -> Result<LoadedLis
 pub fn batch_of(
     alloc: Global,
     history: &History,
-    state: &State,
+    peers: &PeerBook,
     caller: u32,
     of: u32,
 ) -> Result<Batch, NoMemory>
-    requires state { IsStateOf (items_of history.now) state.now }
+    requires peers { IsPeersOf (items_of history.now) peers.now }
     requires few { collected (items_of history.now) caller of + 1 ≤ MAX_NUMBER }
     ensures from { IfOk result (λ b. b.from ≡ collected (items_of history.now) caller of + 1) }
     ensures outputs { IfOk result (λ b. b.outputs ≡ batch (items_of history.now) caller of) }
     ensures loads { IfOk result (λ b. b.loads ≡ take (greatest_load b.outputs) history.now.loads) }
 {
-    let collected = state.collections.count(caller, of);
-    let outputs = outputs_from(alloc, history, state, of, collected)?;
+    let collected = peers.collected(caller, of);
+    let outputs = outputs_from(alloc, history, peers, of, collected)?;
     let number = greatest_named(outputs.as_slice());
     let loads = first_loads(alloc, history.loads.as_slice(), number)?;
     Ok(Batch {
-        from: collected as u32 + 1,
+        from: collected + 1,
         outputs,
         loads,
     })

@@ -1,112 +1,160 @@
-// Puts an entry into the journal, and carries the state on by it.
-ghost use Rattle.std.specs.Prelude.{◌≡◌, ◌+◌, ◌<◌, ◌≤◌, ◌^◌, ◌++◌, ◌∷◌, [], List, Some, length, IfErr, IfSome, OnOk, OnErr};
-ghost use Rattle.std.specs.Option.{option_copied};
-ghost use Rattle.authority_model.specs.declared.journal.History.{History as TheHistory};
-ghost use Rattle.authority_model.specs.declared.journal.Item.{Item};
-ghost use Rattle.authority_model.specs.Answers.{loads as loads_after};
-ghost use Rattle.authority_model.specs.Items.{items_of, loaded_of, empty_loaded};
-ghost use Rattle.authority_model.specs.Legal.{last_moment};
-ghost use Rattle.authority_model.specs.Small.{IsShort};
-ghost use Rattle.journal_state.specs.States.{IsStateOf};
-ghost use Rattle.pk_types.specs.declared.decimals.TheConstants.{MAX_NUMBER};
+// Puts the desk's entry at the end of the journal.
+ghost use Rattle.std.specs.Prelude.{◌≡◌, ◌<◌, ◌≤◌, ◌^◌, ◌++◌, ◌∷◌, [], List, length, IfErr, IfOk, OnOk, OnErr};
+ghost use Rattle.authority_model.specs.declared.journal.Entry.{Entry as TheEntry};
+ghost use Rattle.authority_model.specs.Costs as costs;
+ghost use Rattle.authority_model.specs.Given.{IsStepped, event_given, load_given};
+ghost use Rattle.authority_laws.specs.Batches.{collect_given};
+ghost use Rattle.authority_desk.specs.Seen.{CarriesOn};
+ghost use Rattle.authority_core.specs.Entered.{EntersNext, IsEntered};
+ghost use Rattle.authority_core.specs.Entered as entered;
 
-use authority_model::{Entry, EntryList, History, Loaded, LoadedList};
-use journal_state::State;
-use pk_types::NoMemory;
+use authority_desk::{Desk, DeskLoadRefused, DeskRefused};
+use authority_model::{Entry, EntryList, Event, History, Loaded, LoadedList};
+use journal_costs::cost_of_entry;
+use pk_types::{List, NoMemory, TryCopy};
+use std::alloc::Global;
 
-/// The load in force after these loads: the last one, or load 0, which is empty.
-pub fn load_in_force<'a>(loads: &'a [Loaded], empty: &'a Loaded) -> &'a Loaded
-    requires empty { empty.now ≡ empty_loaded }
-    ensures in_force { (h : TheHistory) → h.loads ≡ loads.now → loads_after (items_of h) ≡ length h.loads → result.now ≡ loaded_of (items_of h) }
-{
-    match loads.last() {
-        Some(last) => last,
-        None => empty,
-    }
-}
-
-/// Puts an entry with its load at the end, and carries the state on by them. A refusal gives the
-/// entry back, and leaves the entries and what the state stands for as they were.
-pub fn enter(
-    entries: &mut EntryList,
-    state: &mut State,
-    in_force: &Loaded,
-    entry: Entry,
-    loaded: Option<&Loaded>,
-) -> Result<(), Entry>
-    requires rules { IsShort in_force.now.policy.entries }
-    requires moment { entry.moment ≤ 2 ^ 62 }
-    ensures ok { OnOk result (entries.new ≡ entries.old ++ entry ∷ []) }
-    ensures state { (past : List Item) → in_force.now ≡ loaded_of past → length entries.old ≡ length past → last_moment past ≤ entry.moment → IsStateOf past state.old → OnOk result (IsStateOf (record { entry = entry; loaded = option_copied loaded.entry } ∷ past) state.new) }
+/// Holds a place at the end for an entry to come, so that nothing can be refused once the desk has
+/// moved on. A refusal leaves the entries as they were.
+fn hold(alloc: Global, entries: &mut EntryList) -> Result<(), NoMemory>
+    ensures ok { OnOk result (entries.new ≡ entries.old ++ entered.held ∷ []) }
     ensures err { OnErr result (entries.new ≡ entries.old) }
-    ensures same { OnErr result ((past : List Item) → IsStateOf past state.old → IsStateOf past state.new) }
-    ensures back { IfErr result (λ back. back ≡ entry) }
 {
-    let place = entries.len();
-    entries.push_or_return(entry)?;
-    let Some(last) = entries.get(place) else {
-        unreachable!();
+    entries.try_push(Entry {
+        caller: 0,
+        moment: 0,
+        salt: 0,
+        event: Event::Passed,
+        outputs: List::new(alloc),
+    })
+}
+
+/// Puts an entry into the place that was held for it, and answers what it costs. It takes no memory.
+fn fill(entries: &mut EntryList, entry: Entry) -> u64
+    requires held { 0 < length entries.old }
+    ensures entered { (before : List TheEntry) (e : TheEntry) → entries.old ≡ before ++ e ∷ [] → IsEntered entry before entries.new result }
+{
+    let cost = cost_of_entry(&entry);
+    entries.set(entries.len() - 1, entry);
+    cost
+}
+
+/// Gives up the place that was held. It takes no memory.
+fn give_up(entries: &mut EntryList)
+    requires held { 0 < length entries.old }
+    ensures given_up { (before : List TheEntry) (e : TheEntry) → entries.old ≡ before ++ e ∷ [] → entries.new ≡ before }
+{
+    entries.truncate(entries.len() - 1);
+}
+
+/// Puts the entry of an event at the end, carries the desk on by it, and answers what it costs. A
+/// refusal gives the event back, and leaves entries and desk as they were.
+pub fn enter(
+    alloc: Global,
+    entries: &mut EntryList,
+    desk: &mut Desk,
+    caller: u32,
+    moment: u64,
+    salt: u128,
+    event: Event,
+) -> Result<u64, Event>
+    requires event { IsStepped event }
+    requires moment { moment ≤ 2 ^ 62 }
+    ensures entered { EntersNext (event_given caller moment salt event) desk.old entries.old entries.new result }
+    ensures stands { CarriesOn (event_given caller moment salt event) desk.old desk.new result }
+    ensures err { OnErr result (entries.new ≡ entries.old) }
+    ensures same { OnErr result (desk.new ≡ desk.old) }
+    ensures back { IfErr result (λ back. back ≡ event) }
+{
+    let Ok(()) = hold(alloc, entries) else {
+        return Err(event);
     };
-    match state.after(in_force, place as u64, last, loaded) {
-        Ok(()) => Ok(()),
-        Err(NoMemory) => match entries.pop() {
-            Some(entry) => Err(entry),
-            None => unreachable!(),
-        },
+    match desk.step(caller, moment, salt, event) {
+        Ok(entry) => Ok(fill(entries, entry)),
+        Err(DeskRefused::NoMemory { event }) => {
+            give_up(entries);
+            Err(event)
+        }
     }
 }
 
-/// Takes the last load out.
-fn take_last(loads: &mut LoadedList) -> Loaded
-    requires { 0 < length loads.old }
-    ensures last { loads.old ≡ loads.new ++ result ∷ [] }
+/// Puts the entry of a Collect at the end, carries the desk on by it, and answers what it costs. A
+/// refusal leaves entries and desk as they were.
+pub fn enter_collect(
+    alloc: Global,
+    entries: &mut EntryList,
+    desk: &mut Desk,
+    caller: u32,
+    of: u32,
+) -> Result<u64, NoMemory>
+    ensures entered { EntersNext (collect_given caller of) desk.old entries.old entries.new result }
+    ensures stands { CarriesOn (collect_given caller of) desk.old desk.new result }
+    ensures err { OnErr result (entries.new ≡ entries.old) }
+    ensures same { OnErr result (desk.new ≡ desk.old) }
 {
-    match loads.pop() {
-        Some(last) => last,
-        None => unreachable!(),
+    hold(alloc, entries)?;
+    match desk.collect(caller, of) {
+        Ok(entry) => Ok(fill(entries, entry)),
+        Err(NoMemory) => {
+            give_up(entries);
+            Err(NoMemory)
+        }
     }
 }
 
-/// Puts the entry of a load and the load at the end, and carries the state on by them. A refusal
-/// gives the load back, and leaves the journal and what the state stands for as they were.
-pub fn enter_load(
-    history: &mut History,
-    state: &mut State,
-    empty: &Loaded,
-    entry: Entry,
-    loaded: Loaded,
-) -> Result<(), Loaded>
-    requires named { loads_after (items_of history.old) ≡ length history.old.loads }
-    requires empty { empty.now ≡ empty_loaded }
-    requires rules { IsShort (loaded_of (items_of history.old)).policy.entries }
-    requires moment { entry.moment ≤ 2 ^ 62 }
-    ensures entries { OnOk result (history.new.entries ≡ history.old.entries ++ entry ∷ []) }
-    ensures loads { OnOk result (history.new.loads ≡ history.old.loads ++ loaded ∷ []) }
-    ensures state { last_moment (items_of history.old) ≤ entry.moment → IsStateOf (items_of history.old) state.old → OnOk result (IsStateOf (record { entry = entry; loaded = Some loaded } ∷ items_of history.old) state.new) }
+/// Puts a copy of a load at the end. A refusal leaves the loads as they were.
+fn push_copy(loads: &mut LoadedList, loaded: &Loaded) -> Result<(), NoMemory>
+    ensures ok { OnOk result (loads.new ≡ loads.old ++ loaded.now ∷ []) }
+    ensures err { OnErr result (loads.new ≡ loads.old) }
+{
+    let copy = loaded.try_copy()?;
+    loads.try_push(copy)
+}
+
+/// Holds a place for the entry of a load, and puts a copy of the load behind the others. A refusal
+/// leaves the journal as it was.
+fn hold_load(alloc: Global, history: &mut History, loaded: &Loaded) -> Result<(), NoMemory>
+    ensures entries { OnOk result (history.new.entries ≡ history.old.entries ++ entered.held ∷ []) }
+    ensures loads { OnOk result (history.new.loads ≡ history.old.loads ++ loaded.now ∷ []) }
     ensures err { OnErr result (history.new ≡ history.old) }
-    ensures same { IsStateOf (items_of history.old) state.old → OnErr result (IsStateOf (items_of history.old) state.new) }
+{
+    push_copy(&mut history.loads, loaded)?;
+    match hold(alloc, &mut history.entries) {
+        Ok(()) => Ok(()),
+        Err(NoMemory) => {
+            history.loads.truncate(history.loads.len() - 1);
+            Err(NoMemory)
+        }
+    }
+}
+
+/// Puts the entry of a load and the load at the end, carries the desk on by them, and answers what
+/// the entry costs. A refusal gives the load back, and leaves journal and desk as they were.
+pub fn enter_load(
+    alloc: Global,
+    history: &mut History,
+    desk: &mut Desk,
+    caller: u32,
+    moment: u64,
+    loaded: Loaded,
+) -> Result<u64, Loaded>
+    requires moment { moment ≤ 2 ^ 62 }
+    ensures entered { EntersNext (load_given caller moment loaded) desk.old history.old.entries history.new.entries result }
+    ensures loads { OnOk result (history.new.loads ≡ history.old.loads ++ loaded ∷ []) }
+    ensures stands { CarriesOn (load_given caller moment loaded) desk.old desk.new result }
+    ensures err { OnErr result (history.new ≡ history.old) }
+    ensures same { OnErr result (desk.new ≡ desk.old) }
     ensures back { IfErr result (λ back. back ≡ loaded) }
 {
-    let number = history.loads.len();
-    history.loads.push_or_return(loaded)?;
-    let in_force = load_in_force(&history.loads.as_slice()[..number], empty);
-    let newest = history.loads.get(number);
-    match enter(&mut history.entries, state, in_force, entry, newest) {
-        Ok(()) => return Ok(()),
-        Err(_entry) => return Err(take_last(&mut history.loads)),
+    let Ok(()) = hold_load(alloc, history, &loaded) else {
+        return Err(loaded);
+    };
+    match desk.load(caller, moment, loaded) {
+        Ok(entry) => Ok(fill(&mut history.entries, entry)),
+        Err(DeskLoadRefused::NoMemory { loaded }) => {
+            give_up(&mut history.entries);
+            history.loads.truncate(history.loads.len() - 1);
+            Err(loaded)
+        }
     }
-}
-
-/// The number of the next load, where it and the places in its policy fit in 32 bits, as they do in
-/// any memory.
-pub fn next_load(loads: &LoadedList, loaded: &Loaded) -> Option<u32>
-    ensures number { IfSome result (λ number. number ≡ length loads.now + 1) }
-    ensures fits { IfSome result (λ number. number ≤ MAX_NUMBER) }
-    ensures actions { IfSome result (λ _. IsShort loaded.now.policy.actions) }
-    ensures rules { IfSome result (λ _. IsShort loaded.now.policy.entries) }
-{
-    let _actions = u32::try_from(loaded.policy.actions.len()).ok()?;
-    let _rules = u32::try_from(loaded.policy.entries.len()).ok()?;
-    let number = u32::try_from(loads.len()).ok()?;
-    number.checked_add(1)
 }

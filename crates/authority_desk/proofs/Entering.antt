@@ -4,6 +4,7 @@ use Rattle.std.specs.Option.{option_map_or}
 use Rattle.authority_model.specs.declared.journal.Entry.{Entry}
 use Rattle.authority_model.specs.declared.journal.Item.{Item}
 use Rattle.authority_model.specs.declared.load.Loaded.{Loaded}
+use Rattle.authority_model.specs.declared.world.World.{World}
 use Rattle.authority_model.specs.Items.{loaded_of}
 use Rattle.authority_model.specs.Small.{IsShort}
 use Rattle.entry_changes.specs.declared.change.EntryChange.{EntryChange}
@@ -27,10 +28,10 @@ module _ (e : Entry) (loaded : Option Loaded) (change : EntryChange) (old : Desk
   loaded_next = ap (λ l. in_force_after l old.loaded) (sym next.loaded_is) ∙ ap (in_force_after i.loaded) next.desk_is.loaded_is
 
   -- tables in which the change of the entry is staged are ready for it
-  pub ready_next : (t : Tables) → told t ≡ told_by old → old.peers.entries < 2 ^ 62 → AreStaged e change t → AreReadyFor e (in_force_after loaded old.loaded).world t past i
-  ready_next t same short staged = record {
+  pub ready_next : (t : Tables) (world : World) → world ≡ (in_force_after loaded old.loaded).world → told t ≡ told_by old → old.peers.entries < 2 ^ 62 → AreStaged e change t → AreReadyFor e world t past i
+  ready_next t world of same short staged = record {
     entry_is = next.entry_is;
-    world_is = ap (λ (l : Loaded). l.world) loaded_next;
+    world_is = of ∙ ap (λ (l : Loaded). l.world) loaded_next;
     legal = next.legal;
     short = let entries = next.desk_is.peers_are.entries_are in omega (arith, short, entries);
     tables_are = subst (AreTablesOf past) (sym same) (record { peers_are = next.desk_is.peers_are; agents_are = next.desk_is.agents_are; grants_are = next.desk_is.grants_are; challenges_are = next.desk_is.challenges_are });

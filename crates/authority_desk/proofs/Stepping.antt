@@ -1,54 +1,22 @@
 -- What a desk is handed in makes the next item of each history that it stands for.
-use Rattle.std.proofs.Common.{◌≡◌, ℕ, ◌+◌, ◌≤◌, ◌^◌, max, List, [], ◌∷◌, refl, ap, sym, ◌∙◌, subst, Some, None, arith}
-use Rattle.std.proofs.Math.Nat.{le-max_left, max-le, max-eq_left}
+use Rattle.std.proofs.Common.{◌≡◌, ℕ, ◌+◌, ◌≤◌, ◌^◌, max, List, refl, ap, sym, ◌∙◌, subst, Some, None}
 use Rattle.authority_model.specs.declared.event.Event.{Event}
 use Rattle.authority_model.specs.declared.event.Event.TheVariants.{Load, Collect}
 use Rattle.authority_model.specs.declared.journal.Entry.{Entry}
 use Rattle.authority_model.specs.declared.journal.Item.{Item}
 use Rattle.authority_model.specs.declared.load.Loaded.{Loaded}
 use Rattle.authority_model.specs.declared.message.Output.{Output}
+use Rattle.authority_model.specs.declared.world.World.{World}
 use Rattle.authority_model.specs.Answers.{answers, loads}
-use Rattle.authority_model.specs.Given.{Given, IsProper, IsProperEvent, IsProperWhat, IsStepped, What, event_given, event_of, load_given, load_in, next}
-use Rattle.authority_model.specs.Legal.{Follows, IsCollected, IsNumbered, Legal, last_moment}
+use Rattle.authority_model.specs.Given.{Given, IsProperEvent, IsStepped, event_given, load_given, next}
+use Rattle.authority_model.specs.Legal.{Legal, last_moment}
 use Rattle.journal_view.specs.Seen.{IsSeenOf}
 use Rattle.entry_changes.specs.declared.change.EntryChange.{EntryChange}
 use Rattle.entry_changes.specs.Changes.{entry_change}
 use Rattle.authority_desk.specs.declared.numbers.DeskNumbers.{DeskNumbers}
 use Rattle.authority_desk.specs.Seen.{DeskSeen, IsDeskFor, IsNextOf, seen_of}
+use Rattle.authority_laws.proofs.OneHistory.{follows}
 use Rattle.authority_desk.proofs.Viewing.{seen_is}
-
--- the moments of a legal history are at most 2^62
-last_bound : (past : List Item) → Legal past → last_moment past ≤ 2 ^ 62
-last_bound [] legal = omega arith
-last_bound (i ∷ past) legal = legal.0.bounded
-
--- what is handed in is numbered as a load, or has no load
-numbered : (n : ℕ) (g : Given) (w : What) → IsProperWhat g w → IsNumbered n (event_of n w) (load_in w)
-numbered n g (What.Loads l) p = refl
-numbered n g (What.Of event) p = of event p
-  where
-    of : (event : Event) → IsProperEvent g event → IsNumbered n event None
-    of (Load load) p = p
-    of event p = refl
-
--- a Collect that is handed in has the moment before it and the salt 0
-collected : (n t : ℕ) (g : Given) (e : Entry) → e.moment ≡ max t g.moment → e.salt ≡ g.salt → (w : What) → IsProperWhat g w → IsCollected t e (event_of n w)
-collected n t g e m s (What.Loads l) p = tt
-collected n t g e m s (What.Of event) p = of event p
-  where
-    of : (event : Event) → IsProperEvent g event → IsCollected t e event
-    of (Collect other) p = (m ∙ ap (max t) p.0 ∙ max-eq_left (omega arith), s ∙ p.1)
-    of event p = tt
-
--- what is properly handed in makes an item that follows
-follows : (past : List Item) → Legal past → (g : Given) → IsProper g → Follows past (next past g)
-follows past legal g p = record {
-  rises = le-max_left (last_moment past) g.moment;
-  bounded = max-le (last_bound past legal) p.0;
-  numbered = numbered (loads past) g g.what p.1;
-  collected = collected (loads past) (last_moment past) g (next past g).entry refl refl g.what p.1;
-  answered = refl;
-}
 
 -- what a step takes is properly handed in
 pub stepped_proper : (g : Given) (event : Event) → IsStepped event → IsProperEvent g event
@@ -83,19 +51,20 @@ module _ (d was : DeskSeen) (same : d ≡ was) (caller moment t : ℕ) (later : 
     desk_is = is;
   }
 
-  -- the entry of a load is that of the next item of each history
-  pub load_next : (loaded : Loaded) (number : ℕ) → number ≡ was.numbers.loads + 1
-      → ((past : List Item) → IsSeenOf past (seen_of d) → outputs ≡ answers past caller t 0 (Load number) (Some loaded))
-      → ((past : List Item) → IsSeenOf past (seen_of d) → change ≡ entry_change past caller t 0 (Load number) (Some loaded))
-      → (past : List Item) → Legal past → IsDeskFor past was → IsNextOf (entry_made caller t 0 (Load number) outputs) (Some loaded) change was past (next past (load_given caller moment loaded))
-  load_next loaded number counted told changed past legal is =
+  -- the entry of a load is that of the next item of each history, where it is this load that comes into force, and answered by this world
+  pub load_next : (loaded indexed : Loaded) → indexed ≡ loaded → (world : World) → world ≡ indexed.world → (number : ℕ) → number ≡ was.numbers.loads + 1
+      → ((past : List Item) (l : Loaded) → IsSeenOf past (seen_of d) → world ≡ l.world → (c m salt n : ℕ) → outputs ≡ answers past c m salt (Load n) (Some l))
+      → ((past : List Item) (l : Loaded) → IsSeenOf past (seen_of d) → world ≡ l.world → (c m salt n : ℕ) → change ≡ entry_change past c m salt (Load n) (Some l))
+      → (past : List Item) → Legal past → IsDeskFor past was → IsNextOf (entry_made caller t 0 (Load number) outputs) (Some indexed) change was past (next past (load_given caller moment loaded))
+  load_next loaded indexed same_load world of number counted told changed past legal is =
       let loads_are : loads past + 1 ≡ number = ap (λ (n : DeskNumbers). n.loads + 1) (sym is.numbers_are) ∙ sym counted in
+      let of_loaded : world ≡ loaded.world = of ∙ ap (λ (l : Loaded). l.world) same_load in
       record {
         entry_is = ap (λ n. entry_made caller n 0 (Load (loads past + 1)) (answers past caller n 0 (Load (loads past + 1)) (Some loaded))) (moment_is past is)
             ∙ ap (λ n. entry_made caller t 0 (Load n) (answers past caller t 0 (Load n) (Some loaded))) loads_are
-            ∙ ap (entry_made caller t 0 (Load number)) (sym (told past (seen_by past is)));
-        loaded_is = refl;
-        change_is = changed past (seen_by past is)
+            ∙ ap (entry_made caller t 0 (Load number)) (sym (told past loaded (seen_by past is) of_loaded caller t 0 number));
+        loaded_is = ap Some (sym same_load);
+        change_is = changed past loaded (seen_by past is) of_loaded caller t 0 number
             ∙ ap (λ n. entry_change past caller t 0 (Load n) (Some loaded)) (sym loads_are)
             ∙ ap (λ n. entry_change past caller n 0 (Load (loads past + 1)) (Some loaded)) (sym (moment_is past is));
         legal = (follows past legal (load_given caller moment loaded) (bounded, tt), legal);

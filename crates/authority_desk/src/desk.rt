@@ -5,6 +5,8 @@ ghost use Rattle.authority_laws.specs.Batches.{collect_given};
 ghost use Rattle.authority_model.specs.Given.{IsProperEvent, IsStepped, event_given, load_given};
 ghost use Rattle.authority_model.specs.Small.{IsShort};
 ghost use Rattle.journal_view.specs.Seen.{IsSeenOf};
+ghost use Rattle.authority_desk.specs.declared.desk.DeskLoadRefused.TheVariants as load_refused;
+ghost use Rattle.authority_desk.specs.declared.desk.DeskRefused.TheVariants as refused;
 ghost use Rattle.authority_desk.specs.Seen.{CarriesOn, IsAnswered, IsDeskFor, IsNext, StandsNext, desk_seen, seen_of};
 
 use crate::numbers::DeskNumbers;
@@ -17,21 +19,22 @@ use event_answers::{Answered, Occasion, answer, answer_load};
 use grant_store::GrantStore;
 use peer_book::PeerBook;
 use pk_types::NoMemory;
+use rulebook::Rulebook;
 use std::alloc::Global;
 use std::marker::Model;
 
-/// There was no memory for the entry of an event. Nothing has changed.
+/// Why a desk makes no entry of an event. Nothing has changed.
 #[derive(Drop)]
-pub struct EventRefused {
-    /// It comes back.
-    pub event: Event,
+pub enum DeskRefused {
+    /// There is no memory for the entry, or a count is at its greatest. The event comes back.
+    NoMemory { event: Event },
 }
 
-/// There was no memory for the entry of a load. Nothing has changed.
+/// Why a desk makes no entry of a load. Nothing has changed, and the load is not in force.
 #[derive(Drop)]
-pub struct LoadRefused {
-    /// It comes back.
-    pub loaded: Loaded,
+pub enum DeskLoadRefused {
+    /// There is no memory for the entry, or a count is at its greatest. The load comes back.
+    NoMemory { loaded: Loaded },
 }
 
 /// The authority without its journal. It always stands for some legal history of entries.
@@ -68,6 +71,7 @@ impl Desk {
     pub fn view(&self) -> &DeskView
         ensures same { desk_seen result.now ≡ self.now }
         ensures view { (past : List Item) → IsDeskFor past self.now → IsSeenOf past (seen_of (desk_seen result.now)) }
+        ensures actions { IsShort result.now.loaded.policy.actions }
         ensures rules { IsShort result.now.loaded.policy.entries }
     {
         &self.lookups
@@ -77,7 +81,7 @@ impl Desk {
     pub fn loaded(&self) -> &Loaded
         ensures loaded { result.now ≡ self.now.loaded }
     {
-        &self.lookups.loaded
+        self.lookups.loaded.loaded()
     }
 
     /// What is counted.
@@ -116,16 +120,16 @@ impl Desk {
     }
 
     /// Carries the desk on by an entry with this change that is not a load.
-    fn append(&mut self, entry: Entry, change: EntryChange) -> Result<Entry, EventRefused>
+    fn append(&mut self, entry: Entry, change: EntryChange) -> Result<Entry, DeskRefused>
         requires next { IsNext entry None change self.old }
         ensures entry { IfOk result (λ e. e ≡ entry) }
         ensures stands { StandsNext entry None change self.old self.new result }
         ensures err { OnErr result (self.new ≡ self.old) }
-        ensures back { IfErr result (λ r. r.event ≡ entry.event) }
+        ensures back { IfErr result (λ r. r ≡ refused.NoMemory entry.event) }
     {
         match self.lookups.enter(&entry, change) {
             Ok(()) => Ok(entry),
-            Err(NoMemory) => Err(EventRefused { event: entry.event }),
+            Err(NoMemory) => Err(DeskRefused::NoMemory { event: entry.event }),
         }
     }
 
@@ -134,19 +138,21 @@ impl Desk {
         &mut self,
         entry: Entry,
         change: EntryChange,
-        loaded: Loaded,
-    ) -> Result<Entry, LoadRefused>
+        loaded: Rulebook,
+    ) -> Result<Entry, DeskLoadRefused>
         requires actions { IsShort loaded.policy.actions }
         requires rules { IsShort loaded.policy.entries }
         requires next { IsNext entry (Some loaded) change self.old }
         ensures entry { IfOk result (λ e. e ≡ entry) }
         ensures stands { StandsNext entry (Some loaded) change self.old self.new result }
         ensures err { OnErr result (self.new ≡ self.old) }
-        ensures back { IfErr result (λ r. r.loaded ≡ loaded) }
+        ensures back { IfErr result (λ r. r ≡ load_refused.NoMemory loaded) }
     {
         match self.lookups.enter_load(&entry, change, loaded) {
             Ok(()) => Ok(entry),
-            Err(loaded) => Err(LoadRefused { loaded }),
+            Err(loaded) => Err(DeskLoadRefused::NoMemory {
+                loaded: loaded.into_loaded(),
+            }),
         }
     }
 
@@ -158,13 +164,13 @@ impl Desk {
         moment: u64,
         salt: u128,
         event: Event,
-    ) -> Result<Entry, EventRefused>
+    ) -> Result<Entry, DeskRefused>
         requires event { IsProperEvent (event_given caller moment salt event) event }
         requires moment { moment ≤ 2 ^ 62 }
         ensures entry { IsAnswered (event_given caller moment salt event) self.old result }
         ensures stands { CarriesOn (event_given caller moment salt event) self.old self.new result }
         ensures err { OnErr result (self.new ≡ self.old) }
-        ensures back { IfErr result (λ r. r.event ≡ event) }
+        ensures back { IfErr result (λ r. r ≡ refused.NoMemory event) }
     {
         let moment = self.lookups.numbers.moment_at(moment);
         let answered = answer(
@@ -176,7 +182,7 @@ impl Desk {
         );
         let Answered { outputs, change } = match answered {
             Ok(answered) => answered,
-            Err(NoMemory) => return Err(EventRefused { event }),
+            Err(NoMemory) => return Err(DeskRefused::NoMemory { event }),
         };
         let entry = Entry {
             caller,
@@ -195,20 +201,20 @@ impl Desk {
     /// history with the entry.
     ///
     /// # Errors
-    /// The event, where there is no memory or a count is at its greatest: the desk is as it was.
+    /// `DeskRefused::NoMemory`, also where a count is at its greatest: the desk is as it was.
     pub fn step(
         &mut self,
         caller: u32,
         moment: u64,
         salt: u128,
         event: Event,
-    ) -> Result<Entry, EventRefused>
+    ) -> Result<Entry, DeskRefused>
         requires event { IsStepped event }
         requires moment { moment ≤ 2 ^ 62 }
         ensures entry { IsAnswered (event_given caller moment salt event) self.old result }
         ensures stands { CarriesOn (event_given caller moment salt event) self.old self.new result }
         ensures err { OnErr result (self.new ≡ self.old) }
-        ensures back { IfErr result (λ r. r.event ≡ event) }
+        ensures back { IfErr result (λ r. r ≡ refused.NoMemory event) }
     {
         self.answer_event(caller, moment, salt, event)
     }
@@ -217,13 +223,16 @@ impl Desk {
     /// connection. The entry has the moment of the one before it and the salt 0.
     ///
     /// # Errors
-    /// As for `step`.
-    pub fn collect(&mut self, caller: u32, of: u32) -> Result<Entry, EventRefused>
+    /// `NoMemory`, also where a count is at its greatest: the desk is as it was.
+    pub fn collect(&mut self, caller: u32, of: u32) -> Result<Entry, NoMemory>
         ensures entry { IsAnswered (collect_given caller of) self.old result }
         ensures stands { CarriesOn (collect_given caller of) self.old self.new result }
         ensures err { OnErr result (self.new ≡ self.old) }
     {
-        self.answer_event(caller, 0, 0, Event::Collect { of })
+        match self.answer_event(caller, 0, 0, Event::Collect { of }) {
+            Ok(entry) => Ok(entry),
+            Err(DeskRefused::NoMemory { .. }) => Err(NoMemory),
+        }
     }
 
     /// The number of the next load, where it and the places in its policy fit in 32 bits, as they do
@@ -242,25 +251,35 @@ impl Desk {
     /// greatest moment handed in so far, the number of the next load, and the salt 0.
     ///
     /// # Errors
-    /// The load, as for `step`.
-    pub fn load(&mut self, caller: u32, moment: u64, loaded: Loaded) -> Result<Entry, LoadRefused>
+    /// `DeskLoadRefused::NoMemory`, also where a count is at its greatest: the desk is as it was.
+    pub fn load(
+        &mut self,
+        caller: u32,
+        moment: u64,
+        loaded: Loaded,
+    ) -> Result<Entry, DeskLoadRefused>
         requires moment { moment ≤ 2 ^ 62 }
         ensures entry { IsAnswered (load_given caller moment loaded) self.old result }
         ensures stands { CarriesOn (load_given caller moment loaded) self.old self.new result }
         ensures err { OnErr result (self.new ≡ self.old) }
-        ensures back { IfErr result (λ r. r.loaded ≡ loaded) }
+        ensures back { IfErr result (λ r. r ≡ load_refused.NoMemory loaded) }
     {
         let Some(load) = self.next_load(&loaded) else {
-            return Err(LoadRefused { loaded });
+            return Err(DeskLoadRefused::NoMemory { loaded });
+        };
+        let indexed = match Rulebook::of(self.alloc, loaded) {
+            Ok(indexed) => indexed,
+            Err((NoMemory, loaded)) => return Err(DeskLoadRefused::NoMemory { loaded }),
         };
         let moment = self.lookups.numbers.moment_at(moment);
-        let Answered { outputs, change } = match answer_load(
-            self.alloc,
-            &self.lookups,
-            &loaded.world,
-        ) {
+        let world = &indexed.loaded().world;
+        let Answered { outputs, change } = match answer_load(self.alloc, &self.lookups, world) {
             Ok(answered) => answered,
-            Err(NoMemory) => return Err(LoadRefused { loaded }),
+            Err(NoMemory) => {
+                return Err(DeskLoadRefused::NoMemory {
+                    loaded: indexed.into_loaded(),
+                });
+            }
         };
         let entry = Entry {
             caller,
@@ -269,6 +288,6 @@ impl Desk {
             event: Event::Load { load },
             outputs,
         };
-        self.append_load(entry, change, loaded)
+        self.append_load(entry, change, indexed)
     }
 }

@@ -7,21 +7,24 @@ ghost use Rattle.authority_model.specs.Items.{empty_loaded};
 
 use crate::numbers::DeskNumbers;
 use crate::tables::Tables;
-use authority_model::{Action, Agent, Entry, GrantRow, KeyRef, Loaded, Pending, RuleSource};
+use authority_model::{
+    Action, Agent, Entry, GrantRow, KeyRef, Loaded, Pending, Process, RuleSource, Session,
+};
 use entry_changes::{EntryChange, Peer};
 use journal_view::{JournalView, ViewCounts};
 use pk_types::{Category, Implicit, NoMemory, Text};
-use policy_decide::implicit;
+use rulebook::Rulebook;
 use std::alloc::Global;
 
 /// How many entries a desk counts at most: 2^62.
 pub const MAX_DESK_ENTRIES: u64 = 4_611_686_018_427_387_904;
 
-/// What answering looks things up in: the tables, the load in force, and what is counted.
+/// What answering looks things up in: the tables, the load in force with its indexes, and what is
+/// counted.
 #[derive(Drop)]
 pub struct DeskView {
     pub tables: Tables,
-    pub loaded: Loaded,
+    pub loaded: Rulebook,
     pub numbers: DeskNumbers,
 }
 
@@ -34,7 +37,7 @@ impl DeskView {
     {
         Ok(DeskView {
             tables: Tables::new(alloc)?,
-            loaded: Loaded::empty(alloc),
+            loaded: Rulebook::empty(alloc),
             numbers: DeskNumbers::start(),
         })
     }
@@ -67,7 +70,7 @@ impl DeskView {
             return Err(NoMemory);
         };
         self.tables.stage(entry, change)?;
-        self.tables.apply_entry(entry, &self.loaded.world);
+        self.tables.apply_entry(entry, &self.loaded.loaded().world);
         self.numbers = numbers;
         Ok(())
     }
@@ -80,8 +83,8 @@ impl DeskView {
         &mut self,
         entry: &Entry,
         change: EntryChange,
-        loaded: Loaded,
-    ) -> Result<(), Loaded>
+        loaded: Rulebook,
+    ) -> Result<(), Rulebook>
         requires idle { AreIdle self.old.tables }
         requires next { IsNext entry.now (Some loaded) change (desk_seen self.old) }
         ensures stands { StandsNext entry.now (Some loaded) change (desk_seen self.old) (desk_seen self.new) result }
@@ -97,7 +100,7 @@ impl DeskView {
             Ok(()) => {}
             Err(NoMemory) => return Err(loaded),
         }
-        self.tables.apply_entry(entry, &loaded.world);
+        self.tables.apply_entry(entry, &loaded.loaded().world);
         self.loaded = loaded;
         self.numbers = numbers;
         Ok(())
@@ -115,6 +118,10 @@ impl JournalView for DeskView {
 
     fn live(&self, i: usize) -> Option<u32> {
         self.tables.peers.live(i)
+    }
+
+    fn live_len(&self) -> usize {
+        self.tables.peers.live_len()
     }
 
     fn sent_count(&self, caller: u32) -> u32 {
@@ -166,11 +173,19 @@ impl JournalView for DeskView {
     }
 
     fn loaded(&self) -> &Loaded {
-        &self.loaded
+        self.loaded.loaded()
+    }
+
+    fn process(&self, pid: u32, start: u64) -> Option<&Process> {
+        self.loaded.process(pid, start)
+    }
+
+    fn session(&self, id: &Text) -> Option<&Session> {
+        self.loaded.session(id)
     }
 
     fn action(&self, id: &Text) -> Option<&Action> {
-        self.loaded.policy.action(id)
+        self.loaded.action(id)
     }
 
     fn implicit(
@@ -179,13 +194,8 @@ impl JournalView for DeskView {
         category: Category,
         action: &Text,
     ) -> Option<(Implicit, RuleSource)> {
-        implicit(
-            &self.loaded.policy,
-            &self.loaded.world,
-            uid,
-            category,
-            action,
-        )
+        let found = self.loaded.implicit(uid, category, action)?;
+        Some((found.value, found.source))
     }
 
     fn counts(&self) -> ViewCounts {

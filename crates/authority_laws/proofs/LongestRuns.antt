@@ -1,7 +1,8 @@
 -- The words of a text are its longest runs without blanks, in order.
 use Rattle.std.proofs.Common.{◌≡◌, ℕ, Bool, true, false, List, [], ◌∷◌, ◌++◌, refl, ap, ◌∙◌, subst}
 use Rattle.std.specs.Prelude.{if◌then◌else◌}
-use Rattle.authority_model.specs.Words.{Bytes, is_blank, run_joined, words}
+use Rattle.pk_types.specs.Text.{is_blank}
+use Rattle.authority_model.specs.Words.{Bytes, run_joined, words}
 use Rattle.authority_laws.specs.Longest.{AllBlank, IsRun, StartsBlank, HasWords}
 
 -- the first byte of a text that has a word right at its front is not a blank; so no blanks come before the first word where the first byte is not a blank

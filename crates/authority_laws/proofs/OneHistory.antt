@@ -4,7 +4,7 @@ use Rattle.std.proofs.Math.Nat.{le-max_left, max-le, max-eq_left}
 use Rattle.std.specs.Prelude.{max}
 use Rattle.authority_model.specs.declared.journal.Entry.{Entry}
 use Rattle.authority_model.specs.declared.event.Event.{Event}
-use Rattle.authority_model.specs.declared.event.Event.TheVariants.{Connect, Call as Called, Returned, AgentError, Passed, Depart, Load, LoadFailed, Stop, Collect}
+use Rattle.authority_model.specs.declared.event.Event.TheVariants.{Load, Collect}
 use Rattle.authority_model.specs.declared.journal.Item.{Item}
 use Rattle.authority_model.specs.declared.load.Loaded.{Loaded}
 use Rattle.authority_model.specs.Lists.{Each}
@@ -13,43 +13,31 @@ use Rattle.authority_model.specs.Answers.{loads}
 use Rattle.authority_model.specs.Legal.{Legal, Follows, IsNumbered, IsCollected, last_moment}
 use Rattle.authority_model.specs.Given.{What, Given, event_of, load_in, item_of, next, history_of, IsProper, IsProperWhat, IsProperEvent, Shows, IsHistoryOf}
 
+-- the moments of a legal history are at most 2^62
 last_bound : (past : List Item) → Legal past → last_moment past ≤ 2 ^ 62
 last_bound [] legal = omega arith
 last_bound (i ∷ past) legal = legal.0.bounded
 
+-- what is handed in is numbered as a load, or has no load
 numbered : (n : ℕ) (g : Given) (w : What) → IsProperWhat g w → IsNumbered n (event_of n w) (load_in w)
 numbered n g (What.Loads l) p = refl
 numbered n g (What.Of event) p = of event p
   where
     of : (event : Event) → IsProperEvent g event → IsNumbered n event None
     of (Load load) p = p
-    of (Connect uid) p = refl
-    of (Called serial quiet call) p = refl
-    of (Returned s) p = refl
-    of (AgentError s name) p = refl
-    of Passed p = refl
-    of Depart p = refl
-    of (LoadFailed code) p = refl
-    of Stop p = refl
-    of (Collect other) p = refl
+    of event p = refl
 
+-- a Collect that is handed in has the moment before it and the salt 0
 collected : (n t : ℕ) (g : Given) (e : Entry) → e.moment ≡ max t g.moment → e.salt ≡ g.salt → (w : What) → IsProperWhat g w → IsCollected t e (event_of n w)
 collected n t g e m s (What.Loads l) p = tt
 collected n t g e m s (What.Of event) p = of event p
   where
     of : (event : Event) → IsProperEvent g event → IsCollected t e event
     of (Collect other) p = (m ∙ ap (max t) p.0 ∙ max-eq_left (omega arith), s ∙ p.1)
-    of (Load load) p = tt
-    of (Connect uid) p = tt
-    of (Called serial quiet call) p = tt
-    of (Returned s) p = tt
-    of (AgentError s name) p = tt
-    of Passed p = tt
-    of Depart p = tt
-    of (LoadFailed code) p = tt
-    of Stop p = tt
+    of event p = tt
 
-follows : (past : List Item) → Legal past → (g : Given) → IsProper g → Follows past (next past g)
+-- what is properly handed in makes an item that follows
+pub follows : (past : List Item) → Legal past → (g : Given) → IsProper g → Follows past (next past g)
 follows past legal g p = record {
   rises = le-max_left (last_moment past) g.moment;
   bounded = max-le (last_bound past legal) p.0;
@@ -68,28 +56,12 @@ event_is past i f g (What.Of event) p s = (s, of event p (subst (λ (e : Event).
   where
     of : (event : Event) → IsProperEvent g event → IsNumbered (loads past) event i.loaded → i.loaded ≡ None
     of (Load load) p h = absurd p
-    of (Connect uid) p h = h
-    of (Called serial quiet call) p h = h
-    of (Returned s) p h = h
-    of (AgentError s name) p h = h
-    of Passed p h = h
-    of Depart p h = h
-    of (LoadFailed code) p h = h
-    of Stop p h = h
-    of (Collect other) p h = h
+    of event p h = h
 event_is past i f g (What.Loads l) p s = (of i.entry.event s.0 (subst (λ (o : Option Loaded). IsNumbered (loads past) i.entry.event o) s.1 f.numbered), s.1)
   where
     of : (event : Event) → is_load event ≡ true → IsNumbered (loads past) event (Some l) → event ≡ Load (loads past + 1)
     of (Load load) e h = ap Load h
-    of (Connect uid) e h = absurd (cc)
-    of (Called serial quiet call) e h = absurd (cc)
-    of (Returned s) e h = absurd (cc)
-    of (AgentError s name) e h = absurd (cc)
-    of Passed e h = absurd (cc)
-    of Depart e h = absurd (cc)
-    of (LoadFailed code) e h = absurd (cc)
-    of Stop e h = absurd (cc)
-    of (Collect other) e h = absurd (cc)
+    of event e h = absurd (cc)
 
 next_only : (past : List Item) (i : Item) → Follows past i → (g : Given) → IsProper g → i.entry.caller ≡ g.caller → i.entry.moment ≡ max (last_moment past) g.moment → i.entry.salt ≡ g.salt → Shows i g.what → i ≡ next past g
 next_only past i f g p c m s w =

@@ -1,5 +1,6 @@
 -- What the entry that opens a challenge tells.
-use Rattle.std.proofs.Common.{◌≡◌, ℕ, false, List, ap, ◌∙◌, Some, is_some, subst}
+use Rattle.std.proofs.Common.{◌≡◌, ℕ, false, List, ap, ◌∙◌, Option, Some, is_some, subst}
+use Rattle.std.specs.Prelude.{option_map, option_and_then}
 use Rattle.pk_types.specs.declared.values.Pair.{Pair}
 use Rattle.pk_types.specs.declared.values.Implicit.{Implicit}
 use Rattle.authority_model.specs.declared.pending.Agent.{Agent}
@@ -14,11 +15,27 @@ use Rattle.authority_model.specs.Items.{implicit_for}
 use Rattle.authority_model.specs.Subjects.{facts}
 use Rattle.authority_model.specs.Peers.{uid_of}
 use Rattle.authority_model.specs.Agents.{agent_for}
-use Rattle.authority_model.specs.Challenges.{Question, Begun, question_in, begun_in, opened, opened_at, opened_with, opened_for, opened_by, opened_to, challenge_of, with_id}
+use Rattle.authority_model.specs.Challenges.{Question, Begun, question_in, begun_in, opened, challenge_of, with_id}
 use Rattle.authority_model.specs.Answers.{ask}
 use Rattle.authority_model.specs.Legal.{Follows}
 use Rattle.authority_model.proofs.Cases.{map_some, then_some}
 use Rattle.authority_laws.proofs.Asking.{outputs_ask, question_is}
+
+-- the steps by which a challenge is opened, each with what the ones before it found: the asker's uid, the agent, the action's value, the subject's facts, the Begin
+abbrev pub opened_to : List Item → Item → Question → Begun → Facts → Implicit × RuleSource → Agent → Option Pending
+opened_to past i q b f v a = option_map (challenge_of past i q b f v a) (uid_of past i.entry.caller)
+
+abbrev pub opened_by : List Item → Item → Question → Begun → Facts → Implicit × RuleSource → Option Pending
+opened_by past i q b f v = option_and_then (opened_to past i q b f v) (agent_for past f)
+
+abbrev pub opened_for : List Item → Item → Question → Begun → Facts → Option Pending
+opened_for past i q b f = option_and_then (opened_by past i q b f) (implicit_for past f q.action)
+
+abbrev pub opened_with : List Item → Item → Question → Begun → Option Pending
+opened_with past i q b = option_and_then (opened_for past i q b) (facts past q.subject)
+
+abbrev pub opened_at : List Item → Item → Question → Option Pending
+opened_at past i q = option_and_then (opened_with past i q) (begun_in i.entry.outputs)
 
 -- the parts of a challenge that an item opens
 pub record Opening (past : List Item) (i : Item) (ch : Pending) : Type 0 where

@@ -8,13 +8,13 @@ use Rattle.authority_model.specs.Lists.{or_else}
 use Rattle.authority_model.specs.Admins.{allowed}
 use Rattle.authority_model.specs.Items.{sent, count_to, world_of, policy_of}
 use Rattle.authority_model.specs.Peers.{uid_of}
-use Rattle.authority_model.specs.Challenges.{Question, Begun, question_in, begun, begun_in, opened, opened_count, opened_at, opened_with, opened_for, opened_by, opened_to, challenge_of}
+use Rattle.authority_model.specs.Challenges.{Question, Begun, question_in, begun, begun_in, opened, opened_count, challenge_of}
 use Rattle.authority_model.specs.Answers.{begin_to}
 use Rattle.authority_model.specs.Legal.{Follows}
 use Rattle.authority_model.specs.Licensed.{Asks, NthTo}
 use Rattle.authority_model.specs.LookBack.{Opens}
 use Rattle.authority_laws.proofs.Asking.{outputs_ask}
-use Rattle.authority_laws.proofs.Opening.{opening, asked}
+use Rattle.authority_laws.proofs.Opening.{opening, asked, opened_at, opened_with, opened_for, opened_by, opened_to}
 
 same_identities : (b x : Begun) → Some b ≡ Some x → b.identities ≡ x.identities
 same_identities b x e = cc

@@ -1,7 +1,8 @@
 -- The words of a text, said by what comes before and after each.
 use Rattle.std.specs.Prelude.{◌≡◌, ⊤, true, false, List, [], ◌∷◌, ◌++◌}
 use Rattle.authority_model.specs.Lists.{Each}
-use Rattle.authority_model.specs.Words.{Bytes, is_blank}
+use Rattle.pk_types.specs.Text.{is_blank}
+use Rattle.authority_model.specs.Words.{Bytes}
 
 -- only blanks
 abbrev pub AllBlank : Bytes → Type 0

@@ -1,6 +1,7 @@
 -- How long messages without lists can become.
 use Rattle.std.proofs.Common.{◌≡◌, ℕ, ◌+◌, ◌≤◌, List, [], ◌∷◌, ◌++◌, length, false, refl, ap, ◌∙◌, arith, length-append}
 use Rattle.std.specs.Int.{w32}
+use Rattle.dbus_values.specs.declared.codes.TheConstants.{MAX_MESSAGE}
 use Rattle.dbus_values.specs.Basics.{gap}
 use Rattle.dbus_values.specs.Signatures.{item_align}
 use Rattle.dbus_values.specs.Trees.{Tree, Trees, none, more, type_of, types_of, bytes_of, padding, marshalled, all_marshalled}
@@ -79,7 +80,7 @@ pub signature_field : (n m : ℕ) (t : Bytes) (fs : List Field) → length t ≤
 signature_field n m t fs le rest = fields_more (n + 13) m (record { code = 8; value = trees.Text 103 t }) fs (λ at. omega (arith, field_within (n + 2) 8 103 (trees.Text 103 t) refl (signature_within t n le) at)) rest
 
 -- a message of fields and a body
-pub message_within : (m : Message) (n k : ℕ) → FieldsWithin n m.fields → AllWithin k m.body → n + k + 23 ≤ 16777216 → length (message_bytes false m) ≤ 16777216
+pub message_within : (m : Message) (n k : ℕ) → FieldsWithin n m.fields → AllWithin k m.body → n + k + 23 ≤ MAX_MESSAGE → length (message_bytes false m) ≤ MAX_MESSAGE
 message_within m n k fields body le =
     let F = length (fields_bytes false 16 m.fields) in
     omega (arith, message_length m, fields 16, body (16 + F + gap 8 (16 + F)))

@@ -6,7 +6,7 @@ use Rattle.dbus_values.specs.Trees.{Tree, Trees, types_of}
 use Rattle.dbus_values.specs.Form.{Field, Message, IsMessage, message_bytes}
 use Rattle.dbus_values.specs.Written.{list_trees, text_field, number_field, signature_field}
 use Rattle.authority_model.specs.Words.{Bytes}
-use Rattle.dbus_values.specs.declared.codes.TheConstants.{METHOD_CALL, METHOD_RETURN, ERROR, SIGNAL}
+use Rattle.dbus_values.specs.declared.codes.TheConstants.{METHOD_CALL, METHOD_RETURN, ERROR, SIGNAL, MAX_MESSAGE}
 use Rattle.authority_calls.specs.declared.event.TheConstants.{NO_REPLY_EXPECTED}
 use Rattle.authority_messages.specs.declared.outgoing.TheConstants.{INVALID}
 use Rattle.authority_messages.specs.Values.{string, row}
@@ -77,7 +77,7 @@ nothing = record {
 
 -- under each serial but 0 it is a message, as far as it is short enough
 abbrev pub MayBeSent : Outgoing → Type 0
-MayBeSent o = (serial : ℕ) → 0 < serial → serial < 2 ^ 32 → length (message_bytes false (under serial o)) ≤ 16777216 → IsMessage false (under serial o)
+MayBeSent o = (serial : ℕ) → 0 < serial → serial < 2 ^ 32 → length (message_bytes false (under serial o)) ≤ MAX_MESSAGE → IsMessage false (under serial o)
 
 -- under each serial but 0 it is a message
 abbrev pub IsSent : Outgoing → Type 0

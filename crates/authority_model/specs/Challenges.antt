@@ -17,6 +17,7 @@ use Rattle.authority_model.specs.declared.message.Output.{Output}
 use Rattle.authority_model.specs.declared.pending.Agent.{Agent}
 use Rattle.authority_model.specs.declared.pending.Pending.{Pending}
 use Rattle.authority_model.specs.Lists.{or_else, when, any_of}
+use Rattle.authority_model.specs.Steps.{◌>>=◌}
 use Rattle.authority_model.specs.Words.{Bytes}
 use Rattle.authority_model.specs.Values.{same_identity}
 use Rattle.authority_model.specs.Keys.{same_key}
@@ -77,29 +78,15 @@ challenge_of past i q b f v a uid = let (value, source) = v in record {
   answered = None;
 }
 
--- the same, with the asker's uid
-abbrev pub opened_to : List Item → Item → Question → Begun → Facts → Implicit × RuleSource → Agent → Option Pending
-opened_to past i q b f v a = option_map (challenge_of past i q b f v a) (uid_of past i.entry.caller)
-
--- the same, with the agent for the subject
-abbrev pub opened_by : List Item → Item → Question → Begun → Facts → Implicit × RuleSource → Option Pending
-opened_by past i q b f v = option_and_then (opened_to past i q b f v) (agent_for past f)
-
--- the same, with the action's value
-abbrev pub opened_for : List Item → Item → Question → Begun → Facts → Option Pending
-opened_for past i q b f = option_and_then (opened_by past i q b f) (implicit_for past f q.action)
-
--- the same, with the subject's facts
-abbrev pub opened_with : List Item → Item → Question → Begun → Option Pending
-opened_with past i q b = option_and_then (opened_for past i q b) (facts past q.subject)
-
--- the same, with the Begin among the item's outputs
-abbrev pub opened_at : List Item → Item → Question → Option Pending
-opened_at past i q = option_and_then (opened_with past i q) (begun_in i.entry.outputs)
-
 -- The challenge that an item opens: a check whose outputs have a Begin.
 abbrev pub opened : List Item → Item → Option Pending
-opened past i = option_and_then (opened_at past i) (question_in i.entry.event)
+opened past i = do
+  q ← question_in i.entry.event
+  b ← begun_in i.entry.outputs
+  f ← facts past q.subject
+  v ← implicit_for past f q.action
+  agent ← agent_for past f
+  option_map (challenge_of past i q b f v agent) (uid_of past i.entry.caller)
 
 -- the serial that a return or an agent's error replies to
 abbrev pub serial_ended : Event → Option ℕ

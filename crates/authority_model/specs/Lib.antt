@@ -1,4 +1,5 @@
 pub mod Lists
+pub mod Steps
 pub mod Words
 pub mod Interaction
 pub mod Values

@@ -1,14 +1,11 @@
 -- Texts, seen as their bytes.
 use Rattle.std.specs.Prelude.{ℕ, ◌==◌, Bool, true, false, ◌&&◌, ◌||◌, if◌then◌else◌, List, [], ◌∷◌, ◌++◌, Option, Some, None, codes, decimal, nat_lt}
 use Rattle.std.specs.Option.{option_map_or}
+use Rattle.pk_types.specs.Text.{is_blank}
 
 -- a text is its bytes
 abbrev pub Bytes : Type 0
 Bytes = List ℕ
-
--- whether a byte is a space, a tab or an LF
-abbrev pub is_blank : ℕ → Bool
-is_blank b = (b == 32) || (b == 9) || (b == 10)
 
 -- A byte in front of these bytes, which have these runs. It stands in the first of them, or where the test holds of the byte behind it, it is a run of its own.
 abbrev pub run_joined : (ℕ → Bool) → ℕ → Bytes → List Bytes → List Bytes

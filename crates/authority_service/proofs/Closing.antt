@@ -6,6 +6,7 @@ use Rattle.std.specs.Prelude.{All, map, length, slice_index_or}
 use Rattle.std.specs.List.{flat_map}
 use Rattle.std.proofs.lemmas.List.Elements.{All-head, All-tail}
 use mathlib.Core.List.{IsPrefix}
+use Rattle.history_lock.specs.declared.machine.TheConstants.{MOST_PASSES}
 use Rattle.history_lock.specs.Known.{Known}
 use Rattle.history_lock.specs.declared.machine.EndCause.{EndCause}
 use Rattle.pk_outside.specs.Doors.{DoorTold}
@@ -40,7 +41,7 @@ use Rattle.authority_service.specs.Service.{DoorsBack, slots_of}
 use Rattle.authority_service.specs.Shutting.{ShutsAll}
 
 -- a cause that fits what a pass knows fits the journal that goes on from there
-pub fits_closed : (limits : Limits) (cause : EndCause) (v : Known Item) (journal : List Item) → Fits limits cause v.history v.made → IsPrefix v.history journal → IsJournal journal → v.made ≤ 1048576 → FitsJournal limits cause journal
+pub fits_closed : (limits : Limits) (cause : EndCause) (v : Known Item) (journal : List Item) → Fits limits cause v.history v.made → IsPrefix v.history journal → IsJournal journal → v.made ≤ MOST_PASSES → FitsJournal limits cause journal
 fits_closed limits cause v journal fits begins legal top = record { made = v.made; fits = fits_lasts limits cause v.history journal v.made v.made fits legal begins (omega arith) top }
 
 -- doors that tell what they were made as, where these stand
@@ -147,7 +148,7 @@ made_again {A} {B} f g xs ys e = twice xs ∙ e
 
 -- the cause by which the lock stopped a slot fits the journal
 stop_closed : (limits : Limits) (most : Option ℕ) (w : Known Item) (from now : ℕ) (lines : List Line) (why : Option SlotStop) (cause : EndCause) (journal : List Item)
-    → StopTells limits most w from now lines why → ended_slot why ≡ Some cause → IsPrefix w.history journal → IsJournal journal → w.made ≤ 1048576 → FitsJournal limits cause journal
+    → StopTells limits most w from now lines why → ended_slot why ≡ Some cause → IsPrefix w.history journal → IsJournal journal → w.made ≤ MOST_PASSES → FitsJournal limits cause journal
 stop_closed limits most w from now lines None cause journal t e begins legal top = absurd t
 stop_closed limits most w from now lines (Some stop.Closed) cause journal t e begins legal top = absurd (cc (e))
 stop_closed limits most w from now lines (Some stop.DoorFailed) cause journal t e begins legal top = absurd (cc (e))
@@ -161,7 +162,7 @@ stop_closed limits most w from now lines (Some (stop.Ended other)) cause journal
 slots_fit : (limits : Limits) (most : Option ℕ) (w : Known Item) (from now : ℕ) (slots : List ShutSlot) (found : Option EndCause) (journal : List Item)
     → All (λ s. StopTells limits most w from now s.lines.items s.stop) slots
     → IfSome found (λ cause. (k : ℕ) × (k < length slots) × ((d : ShutSlot) → ended_slot (slice_index_or slots k d).stop ≡ Some cause))
-    → IsPrefix w.history journal → IsJournal journal → w.made ≤ 1048576 → IfSome found (λ cause. FitsJournal limits cause journal)
+    → IsPrefix w.history journal → IsJournal journal → w.made ≤ MOST_PASSES → IfSome found (λ cause. FitsJournal limits cause journal)
 slots_fit limits most w from now slots None journal stops found begins legal top = tt
 slots_fit limits most w from now [] (Some cause) journal stops (k, lt, at) begins legal top = absurd (omega (arith, lt))
 slots_fit limits most w from now (s ∷ slots) (Some cause) journal stops (k, lt, at) begins legal top =
@@ -170,13 +171,13 @@ slots_fit limits most w from now (s ∷ slots) (Some cause) journal stops (k, lt
 
 -- the cause by which Stop was refused fits the journal
 stop_fits : (limits : Limits) (v w : Known Item) (stopped : Result (Unit {0}) EndCause) (journal : List Item)
-    → StopsLoader limits v w stopped → IsPrefix w.history journal → IsJournal journal → w.made ≤ 1048576 → IfSome (result_err stopped) (λ cause. FitsJournal limits cause journal)
+    → StopsLoader limits v w stopped → IsPrefix w.history journal → IsJournal journal → w.made ≤ MOST_PASSES → IfSome (result_err stopped) (λ cause. FitsJournal limits cause journal)
 stop_fits limits v w (Ok done) journal stops begins legal top = tt
 stop_fits limits v w (Err cause) journal stops begins legal top = fits_closed limits cause w journal stops begins legal top
 
 -- the cause by which the loader ended fits the journal
 loader_fits : (limits : Limits) (told : Option TreeTold) (root : Bytes) (from until : ℕ) (v w : Known Item) (end : LoaderEnd) (journal : List Item)
-    → Loads limits told root from until v w end → IsPrefix w.history journal → IsJournal journal → w.made ≤ 1048576 → IfSome (ended_loader end) (λ cause. FitsJournal limits cause journal)
+    → Loads limits told root from until v w end → IsPrefix w.history journal → IsJournal journal → w.made ≤ MOST_PASSES → IfSome (ended_loader end) (λ cause. FitsJournal limits cause journal)
 loader_fits limits told root from until v w loader.Stopped journal l begins legal top = tt
 loader_fits limits told root from until v w (loader.Ended cause) journal l begins legal top = fits_closed limits cause w journal l.ends begins legal top
 
@@ -192,7 +193,7 @@ pub cause_fits : (limits : Limits) (most : Option ℕ) (w m z v : Known Item) (f
     → All (λ s. StopTells limits most w from now s.lines.items s.stop) slots
     → IfSome found (λ cause. (k : ℕ) × (k < length slots) × ((d : ShutSlot) → ended_slot (slice_index_or slots k d).stop ≡ Some cause))
     → StopsLoader limits v m stopped → Loads limits told root before until start z end → IsJournal journal
-    → IsPrefix w.history journal → w.made ≤ 1048576 → IsPrefix m.history journal → m.made ≤ 1048576 → IsPrefix z.history journal → z.made ≤ 1048576
+    → IsPrefix w.history journal → w.made ≤ MOST_PASSES → IsPrefix m.history journal → m.made ≤ MOST_PASSES → IsPrefix z.history journal → z.made ≤ MOST_PASSES
     → IfSome result (λ cause. FitsJournal limits cause journal)
 cause_fits limits most w m z v from now slots told root before until start found first result stopped end journal is one stops at stop loads legal wb wt mb mt zb zt =
     subst (λ (x : Option EndCause). IfSome x (λ cause. FitsJournal limits cause journal)) (sym (is ∙ ap (λ (y : Option EndCause). option_or y (ended_loader end)) one))

@@ -1,5 +1,5 @@
 -- What a service leaves that ended before its slots were served, and what it leaves when they were.
-use Rattle.std.proofs.Common.{◌≡◌, ◌≢◌, ◌≤◌, [], ◌∷◌, List, ℕ, Option, None, Some, Result, Ok, Err, IfOk, IfSome, IfNone, refl, sym, ◌∙◌, subst, arith}
+use Rattle.std.proofs.Common.{◌≡◌, ◌≢◌, ◌≤◌, [], ◌∷◌, List, ℕ, Option, None, Some, Result, Ok, Err, IfOk, IfSome, IfNone, inl, inr, refl, sym, ◌∙◌, subst, arith}
 use Rattle.std.specs.Prelude.{All, length, slice_index_or}
 use Rattle.std.specs.List.{flat_map}
 use mathlib.Core.List.{IsPrefix}
@@ -26,7 +26,7 @@ use Rattle.authority_service.specs.Places.{OpensFirst}
 use Rattle.authority_service.specs.Begun.{HasRun, Objects, UnbegunCause, unbegun_by}
 use Rattle.authority_service.specs.declared.top.Unbegun.{Unbegun}
 use Rattle.authority_service.specs.Causes.{FitsJournal}
-use Rattle.authority_service.specs.Running.{LoadsAll, ended_slot}
+use Rattle.authority_service.specs.Running.{HasLoaded, LoadsAll, ended_slot}
 use Rattle.authority_service.specs.Service.{DoorsBack, slots_of}
 use Rattle.authority_service.proofs.Closing.{doors_none, slots_closed, where_none}
 use Rattle.authority_service.proofs.FirstLoad.{begins_longer}
@@ -45,6 +45,7 @@ closed_run plan first out history slots kept cause legal begins same none is fit
   back = subst (λ (t : Option StationTold). DoorsBack plan 0 out.station_before t) (sym same) (doors_none plan out.station_before);
   few = rw none (omega arith);
   cause = rw is fits;
+  loaded = inl none;
   whole = (λ e. absurd (cc (sym e ∙ is)));
 }
 
@@ -61,11 +62,12 @@ pub slots_run : (plan : ServePlan) (limits : Limits) (first : Loaded) (out : Obj
     → (SlotsOf [] out.station_before [] → SlotsOf (in_order history) out.station (flat_map (λ s. s.lines.items) slots))
     → DoorsBack plan made out.station_before out.station → made ≡ slots_of plan → length slots ≡ made
     → IfSome kept (λ cause. FitsJournal limits cause (in_order history))
+    → HasLoaded limits out.tree plan.root (in_order history)
     → IfNone kept (LoadsAll limits out.tree plan.root (in_order history) × All (λ s. ended_slot s.stop ≡ None) slots)
     → (known : Known Item) × All (λ s. StopTells limits plan.stop_after known mid out.station_faults s.lines.items s.stop) slots
     → out.station_faults_before ≤ mid → (All (λ s. HasServedAll s.stop) slots → DoorsAreDone plan.stop_after out.station_before out.station)
     → HasRun plan first out history slots kept
-slots_run plan limits first out history slots kept made mid same legal begins served back all many cause whole (known, stops) le done = record {
+slots_run plan limits first out history slots kept made mid same legal begins served back all many cause loaded whole (known, stops) le done = record {
   legal = legal;
   begins = begins;
   served = served;
@@ -73,6 +75,7 @@ slots_run plan limits first out history slots kept made mid same legal begins se
   back = back;
   few = omega (arith, all, many);
   cause = subst (λ (l : Limits). IfSome kept (λ cause. FitsJournal l cause (in_order history))) (sym same) cause;
+  loaded = inr (subst (λ (l : Limits). HasLoaded l out.tree plan.root (in_order history)) (sym same) loaded);
   whole = (λ e.
       let w = where_none kept e whole in
       record {

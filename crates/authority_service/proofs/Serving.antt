@@ -145,9 +145,14 @@ objects_of out = record {
 abbrev pub left_of : History → List ShutSlot → ℕ → Left
 left_of history slots doors = record { journal = history; lines = flat_map (λ s. s.lines.items) slots; doors = doors }
 
+-- where there are no slots there are no lines
+lines_or : {P : Type 0} (slots : List ShutSlot) → (slots ≡ []) ⊎ P → (flat_map (λ s. s.lines.items) slots ≡ []) ⊎ P
+lines_or slots (inl none) = inl (ap (flat_map (λ (s : ShutSlot). s.lines.items)) none)
+lines_or slots (inr holds) = inr holds
+
 -- what holds of what was left
 is_left : (plan : ServePlan) (first : Loaded) (out : Outside) (history : History) (slots : List ShutSlot) (kept : Option EndCause) (run : HasRun plan first (objects_of out) history slots kept) → IsLeft plan out (left_of history slots run.doors)
-is_left plan first out history slots kept run = record { legal = run.legal; licensed = access (items_of history) run.legal.history; slots = run.served; doors = run.back }
+is_left plan first out history slots kept run = record { legal = run.legal; licensed = access (items_of history) run.legal.history; slots = run.served; doors = run.back; loaded = lines_or slots run.loaded }
 
 -- the lock was not ended
 was_whole : (plan : ServePlan) (first : Loaded) (out : Outside) (history : History) (slots : List ShutSlot) (text : List ℕ) (run : HasRun plan first (objects_of out) history slots None)
@@ -196,10 +201,10 @@ serves_by plan first out history slots (Some (cause.Admissions admitted)) text h
     record { first = first; left = left; served = served_so plan first out history slots (Some (cause.Admissions admitted)) text run is_first told (wrote_front first left out.held_before h1 out.held faults out.write_faults text written told.text_is before wrote); more = (run.cause, omega (arith, few, many)) }
 serves_by plan first out history slots (Some cause.NoMemory) text h1 faults run is_first told before later no_memory failed written n d wrote =
     let left = left_of history slots run.doors in
-    inr (inr (record { first = first; is_first = is_first; left = left; is_left = is_left plan first out history slots (Some cause.NoMemory) run; written = wrote_front first left out.held_before h1 out.held faults out.write_faults text written told.text_is before wrote }))
+    inr (inr (record { first = first; is_first = is_first; left = left; is_left = is_left plan first out history slots (Some cause.NoMemory) run; begins = run.begins; written = wrote_front first left out.held_before h1 out.held faults out.write_faults text written told.text_is before wrote }))
 serves_by plan first out history slots None text h1 faults run is_first told before later true failed written n d wrote =
     let left = left_of history slots run.doors in
-    rw n (inr (inr (record { first = first; is_first = is_first; left = left; is_left = is_left plan first out history slots None run; written = wrote_front first left out.held_before h1 out.held faults out.write_faults text written told.text_is before wrote })))
+    rw n (inr (inr (record { first = first; is_first = is_first; left = left; is_left = is_left plan first out history slots None run; begins = run.begins; written = wrote_front first left out.held_before h1 out.held faults out.write_faults text written told.text_is before wrote })))
 serves_by plan first out history slots None text h1 faults run is_first told before later false true written n d wrote =
     let left = left_of history slots run.doors in
     let whole = run.whole refl in
@@ -226,7 +231,7 @@ pub serves_told : (plan : ServePlan) (first : Loaded) (out : Outside) (history :
 serves_told plan first out history slots kept h1 faults e run is_first before later (inl untold) =
     let left = left_of history slots run.doors in
     subst (λ (x : ServiceEnd). Serves plan out x) (sym untold.end_is)
-    (inr (inr (record { first = first; is_first = is_first; left = left; is_left = is_left plan first out history slots kept run; written = front_only out.held_before h1 out.held (skipped_lines first.faults) (service_text (items_of history) left.lines) before untold.same })))
+    (inr (inr (record { first = first; is_first = is_first; left = left; is_left = is_left plan first out history slots kept run; begins = run.begins; written = front_only out.held_before h1 out.held (skipped_lines first.faults) (service_text (items_of history) left.lines) before untold.same })))
 serves_told plan first out history slots kept h1 faults e run is_first before later (inr told) =
     subst (λ (x : ServiceEnd). Serves plan out x) (sym told.end_is)
     (serves_by plan first out history slots kept told.text h1 faults run is_first told.printed before later (list_any (λ s. has_no_memory s.stop) slots) (list_any (λ s. has_failed_door s.stop) slots) told.written refl refl told.wrote)

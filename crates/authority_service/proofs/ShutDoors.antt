@@ -3,6 +3,7 @@ use Rattle.std.proofs.Common.{◌≡◌, ◌++◌, ◌≤◌, [], ◌∷◌, Lis
 use Rattle.std.specs.Prelude.{All, flat_map, map}
 use Rattle.std.proofs.lemmas.List.{flat_map_more, map-append}
 use Rattle.std.proofs.lemmas.List.Elements.{All-append, All-head, All-nil, All-pop, All-push, All-tail, All-weaker}
+use Rattle.history_lock.specs.declared.machine.TheConstants.{MOST_PASSES}
 use Rattle.history_lock.specs.Known.{Known}
 use Rattle.pk_outside.specs.Causes.{Rose}
 use Rattle.pk_outside.specs.Doors.{DoorTold}
@@ -68,7 +69,7 @@ done_next most t0 t1 t2 slots now one pushed before next all =
 
 -- what a slot's stop told goes on to hold, as the pass learns more and the station counts more
 pub told_later : (limits : Limits) (most : Option ℕ) (v w : Known Item) (from until now : ℕ) (lines : List Line) (why : Option SlotStop)
-    → StopTells limits most v from until lines why → KnowsMore v w → w.made ≤ 1048576 → until ≤ now → StopTells limits most w from now lines why
+    → StopTells limits most v from until lines why → KnowsMore v w → w.made ≤ MOST_PASSES → until ≤ now → StopTells limits most w from now lines why
 told_later limits most v w from until now lines None t k top later = absurd t
 told_later limits most v w from until now lines (Some stop.Closed) t k top later = t
 told_later limits most v w from until now lines (Some stop.DoorFailed) t k top later = (let r = t.0 in omega (arith, r, later), t.1)
@@ -116,7 +117,7 @@ lines_next done now one pushed = flat_map_more (λ (s : ShutSlot). s.lines.items
 
 -- what the stops of the slots that were shut told, with that of one more
 pub stops_next : (limits : Limits) (most : Option ℕ) (v w : Known Item) (from until later : ℕ) (done now : List ShutSlot) (one : ShutSlot)
-    → now ≡ done ++ one ∷ [] → KnowsMore v w → w.made ≤ 1048576 → from ≤ until → until ≤ later
+    → now ≡ done ++ one ∷ [] → KnowsMore v w → w.made ≤ MOST_PASSES → from ≤ until → until ≤ later
     → All (λ s. StopTells limits most v from until s.lines.items s.stop) done → StopTells limits most w until later one.lines.items one.stop
     → All (λ s. StopTells limits most w from later s.lines.items s.stop) now
 stops_next limits most v w from until later done now one pushed more top before after told next =

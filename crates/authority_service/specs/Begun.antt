@@ -1,5 +1,5 @@
 -- What a service leaves that was begun, before its lines are printed.
-use Rattle.std.specs.Prelude.{◌≡◌, ◌≤◌, ℕ, List, [], Option, None, All, IfSome, length}
+use Rattle.std.specs.Prelude.{◌≡◌, ◌≤◌, ◌⊎◌, ℕ, List, [], Option, None, All, IfSome, length}
 use Rattle.std.specs.List.{flat_map}
 use Rattle.authority_laws.specs.Batches.{in_order}
 use Rattle.authority_model.specs.declared.journal.History.{History}
@@ -22,7 +22,7 @@ use Rattle.authority_service.specs.declared.top.Unbegun.{Unbegun}
 use Rattle.authority_service.specs.declared.top.Unbegun.TheVariants as unbegun
 use Rattle.authority_service.specs.Beginning.{BeginsWith}
 use Rattle.authority_service.specs.Causes.{FitsJournal}
-use Rattle.authority_service.specs.Running.{LoadsAll, ended_slot}
+use Rattle.authority_service.specs.Running.{HasLoaded, LoadsAll, ended_slot}
 use Rattle.authority_service.specs.Service.{DoorsBack, slots_of}
 
 -- why no connection was served, by the refusal of a door
@@ -82,4 +82,5 @@ pub record HasRun (plan : ServePlan) (first : Loaded) (out : Objects) (history :
   pub back : DoorsBack plan doors out.station_before out.station
   pub few : length slots ≤ slots_of plan
   pub cause : IfSome kept (λ c. FitsJournal plan.limits c (in_order history))
+  pub loaded : (slots ≡ []) ⊎ HasLoaded plan.limits out.tree plan.root (in_order history)
   pub whole : kept ≡ None → RanWhole plan out history slots doors

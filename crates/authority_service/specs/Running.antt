@@ -13,14 +13,22 @@ use Rattle.serve_loader.specs.Loads.{Loads}
 use Rattle.service_slots.specs.declared.stop.SlotStop.{SlotStop}
 use Rattle.service_slots.specs.declared.stop.SlotStop.TheVariants as stop
 
--- The loader loaded to its end, by what it knew of this journal: it stood for `before` when it began and for `after` when it ended, and the tree counted from so many faults up to so many.
-pub record LoadsAll (limits : Limits) (told : Option TreeTold) (root : Bytes) (journal : List Item) : Type 0 where
+-- The loader loaded until it ended so, by what it knew of this journal: it stood for `before` when it began and for `after` when it ended, and the tree counted from so many faults up to so many.
+pub record LoadsUntil (end : LoaderEnd) (limits : Limits) (told : Option TreeTold) (root : Bytes) (journal : List Item) : Type 0 where
   pub from : ℕ
   pub until : ℕ
   pub before : Known Item
   pub after : Known Item
   pub begins : IsPrefix after.history journal
-  pub loads : Loads limits told root from until before after loader.Stopped
+  pub loads : Loads limits told root from until before after end
+
+-- the loader loaded to its end
+abbrev pub LoadsAll : Limits → Option TreeTold → Bytes → List Item → Type 0
+LoadsAll limits told root journal = LoadsUntil loader.Stopped limits told root journal
+
+-- the loader loaded until it ended, however that was
+abbrev pub HasLoaded : Limits → Option TreeTold → Bytes → List Item → Type 0
+HasLoaded limits told root journal = (end : LoaderEnd) × LoadsUntil end limits told root journal
 
 -- the cause by which the lock stopped a slot, if it did
 abbrev pub ended_slot : Option SlotStop → Option EndCause

@@ -33,7 +33,7 @@ use Rattle.authority_service.specs.Beginning.{BeginsWith}
 use Rattle.authority_service.specs.Causes.{FitsJournal}
 use Rattle.authority_service.specs.Lines.{scanned, service_text}
 use Rattle.authority_service.specs.Places.{first_doors}
-use Rattle.authority_service.specs.Running.{LoadsAll}
+use Rattle.authority_service.specs.Running.{HasLoaded, LoadsAll}
 
 -- What the objects of the outside told and counted before a service and after it: its tree, its station and its output.
 pub record Outside : Type 0 where
@@ -77,13 +77,14 @@ pub record DoorsBack (plan : ServePlan) (count : ℕ) (before after : Option Sta
       → (old : StationTold) × (before ≡ Some old) × (backs : List DoorBack)
       × (now.shut ≡ old.shut ++ backs) × (map (λ back. door_made back.door) backs ≡ first_doors plan.doors plan.slots old.doors count)
 
--- What holds of the journal and of the lines, whatever the end: the journal is legal, each yes in it is licensed, and each line speaks of the link that came back in its place.
+-- What holds of the journal and of the lines, whatever the end: the journal is legal, each yes in it is licensed, each line speaks of the link that came back in its place, and where there is a line the loader loaded until it ended.
 pub record IsLeft (plan : ServePlan) (out : Outside) (left : Left) : Type 0 where
   pub legal : IsJournal (in_order left.journal)
   pub licensed : AllLicensed (items_of left.journal)
   -- where no door came back to the station before
   pub slots : SlotsOf [] out.station_before [] → SlotsOf (in_order left.journal) out.station left.lines
   pub doors : DoorsBack plan left.doors out.station_before out.station
+  pub loaded : (left.lines ≡ []) ⊎ HasLoaded plan.limits out.tree plan.root (in_order left.journal)
 
 -- what a service prints: what the first load skipped, and then the lines of the journal and of the connections
 abbrev pub printed : Loaded → Left → List ℕ
@@ -145,6 +146,7 @@ pub record WasCutShort (plan : ServePlan) (out : Outside) : Type 0 where
   pub is_first : IsFirst plan out first
   pub left : Left
   pub is_left : IsLeft plan out left
+  pub begins : BeginsWith first (in_order left.journal)
   pub written : GotFront out.held_before out.held (printed first left)
 
 -- a service that was served, of which more holds

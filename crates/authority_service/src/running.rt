@@ -5,7 +5,7 @@ ghost use mathlib.Core.List.{IsPrefix};
 ghost use Rattle.authority_laws.specs.Batches.{in_order};
 ghost use Rattle.authority_model.specs.Peers.{uid_of};
 ghost use Rattle.authority_service.specs.Causes.{FitsJournal};
-ghost use Rattle.authority_service.specs.Running.{LoadsAll, ended_slot};
+ghost use Rattle.authority_service.specs.Running.{HasLoaded, LoadsAll, ended_slot};
 ghost use Rattle.authority_service.specs.Shutting.{ShutsAll};
 ghost use Rattle.history_lock.specs.Known.{Known};
 ghost use Rattle.authority_model.specs.declared.journal.Item.{Item};
@@ -96,6 +96,7 @@ where
     ensures doors { (doors : List (Option DoorTold)) × ShutsAll (N.told station.old) (N.told station.new) doors × (map made_of doors ≡ map (λ s. made_of (N.Door.told s.door)) slots.items) }
     ensures all { length result.slots.items ≡ vec_len slots }
     ensures cause { IfSome result.cause (λ cause. FitsJournal L.limits cause (in_order result.authority.history)) }
+    ensures loaded { HasLoaded L.limits (F.told tree.old) plan.now.root (in_order result.authority.history) }
     ensures whole { IfNone result.cause (LoadsAll L.limits (F.told tree.old) plan.now.root (in_order result.authority.history) × All (λ s. ended_slot s.stop ≡ None) result.slots.items) }
     ensures stops { (k : Known Item) × All (λ s. StopTells L.limits plan.now.stop_after k (N.faults station.old) (N.faults station.new) s.lines.items s.stop) result.slots.items }
     ensures done { All (λ s. SlotOf s.pass.history (N.Door.owner s.door) (N.Door.told s.door) (N.Clock.gave s.clock) (N.Salt.gave s.salt) s.lines.items) slots.items

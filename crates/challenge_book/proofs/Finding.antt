@@ -88,6 +88,13 @@ not_of : (x : Pending) (ys : List Pending) → Each (λ y. clash x y ≡ false) 
 not_of x [] apart = refl
 not_of x (y ∷ ys) apart = ap (λ b. cond (not b) (y ∷ without x.entry ys) (without x.entry ys)) (none _ _ _ _ apart.0).0 ∙ ap (λ zs. y ∷ zs) (not_of x ys apart.1)
 
+-- where the first challenge is of an entry, taking the challenge of that entry out leaves the rest
+pub first_out : (e : ℕ) (x : Pending) (xs : List Pending) → AreApart (x ∷ xs) → is_of_entry e x ≡ true → without e (x ∷ xs) ≡ xs
+first_out e x xs apart here =
+    ap (λ b. cond (not b) (x ∷ without e xs) (without e xs)) here
+    ∙ ap (λ n. without n xs) ((Decides-eqb e x.entry).0 here)
+    ∙ not_of x xs apart.0
+
 -- a test that no element passes finds nothing
 pub nothing : {A : Type 0} (p : A → Bool) (xs : List A) → Each (λ x. p x ≡ false) xs → find p xs ≡ None
 nothing p [] each = refl
@@ -109,10 +116,7 @@ only p e row joint hit (x ∷ xs) apart is =
     elim (tells (is_of_entry e x)) [
       | inl here ↦
           let one : x ≡ row = same x row (ap (λ b. cond b (Some x) (find (is_of_entry e) xs)) (sym here) ∙ is) in
-          let entry : x.entry ≡ e = sym ((Decides-eqb e x.entry).0 here) in
-          ap (λ b. find p (cond (not b) (x ∷ without e xs) (without e xs))) here
-          ∙ ap (λ n. find p (without n xs)) (sym entry) ∙ ap (find p) (not_of x xs apart.0)
-          ∙ nothing p xs (fail p x joint (ap p one ∙ hit) xs apart.0)
+          ap (find p) (first_out e x xs apart here) ∙ nothing p xs (fail p x joint (ap p one ∙ hit) xs apart.0)
       | inr there ↦
           let below : find (is_of_entry e) xs ≡ Some row = ap (λ b. cond b (Some x) (find (is_of_entry e) xs)) (sym there) ∙ is in
           let misses : p x ≡ false = elim (tells (p x)) [ inl too ↦ absurd (true≢false (sym (joint x row too hit) ∙ (found_has (is_of_entry e) (λ y. clash x y ≡ false) xs row apart.0 below).0)) | inr miss ↦ miss ] in
@@ -131,10 +135,7 @@ beside p e row fails (x ∷ xs) apart is =
     elim (tells (is_of_entry e x)) [
       | inl here ↦
           let one : x ≡ row = same x row (ap (λ b. cond b (Some x) (find (is_of_entry e) xs)) (sym here) ∙ is) in
-          let entry : x.entry ≡ e = sym ((Decides-eqb e x.entry).0 here) in
-          ap (λ b. find p (cond (not b) (x ∷ without e xs) (without e xs))) here
-          ∙ ap (λ n. find p (without n xs)) (sym entry) ∙ ap (find p) (not_of x xs apart.0)
-          ∙ ap (λ b. cond b (Some x) (find p xs)) (sym (ap p one ∙ fails))
+          ap (find p) (first_out e x xs apart here) ∙ ap (λ b. cond b (Some x) (find p xs)) (sym (ap p one ∙ fails))
       | inr there ↦
           let below : find (is_of_entry e) xs ≡ Some row = ap (λ b. cond b (Some x) (find (is_of_entry e) xs)) (sym there) ∙ is in
           ap (λ b. find p (cond (not b) (x ∷ without e xs) (without e xs))) there

@@ -83,7 +83,7 @@ abbrev pub IsBlind : {Q : Type 0} → (Q → Pending → Bool) → Type 0
 IsBlind {Q} test = (q : Q) (x : Pending) (identity : Identity) → test q (record x { answered = Some identity }) ≡ test q x
 
 -- such a test passes an answered challenge as before
-answered_test : {Q : Type 0} (test : Q → Pending → Bool) (e : ℕ) (identity : Identity) → IsBlind test → (q : Q) (x : Pending) → test q (answered_by e identity x) ≡ test q x
+pub answered_test : {Q : Type 0} (test : Q → Pending → Bool) (e : ℕ) (identity : Identity) → IsBlind test → (q : Q) (x : Pending) → test q (answered_by e identity x) ≡ test q x
 answered_test test e identity blind q x = by (is_of_entry e x)
   where
     by : (b : Bool) → test q (cond b (record x { answered = Some identity }) x) ≡ test q x

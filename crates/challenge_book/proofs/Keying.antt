@@ -1,4 +1,4 @@
--- The three indexes of the challenges together, as a challenge is opened, closed and answered.
+-- The indexes of the challenges together, as a challenge is opened, closed and answered.
 use Rattle.std.proofs.Common.{◌≡◌, ◌<◌, ◌+◌, ◌-◌, ℕ, Bool, true, false, true≢false, cond, not, ◌&&◌, ◌||◌, List, [], ◌∷◌, ◌++◌, refl, sym, ap, ◌∙◌, Some, None, length, arith}
 use Rattle.std.specs.Prelude.{◌==◌, find, map, min, bytes_eq}
 use Rattle.std.specs.Option.{option_map}
@@ -14,8 +14,10 @@ use Rattle.entry_changes.specs.Finding.{is_sent, has_id, named}
 use Rattle.entry_changes.specs.Changes.{is_of_entry, IsFresh, without, answered_by}
 use Rattle.challenge_book.specs.declared.indexed.TheConstants.{MAX_CHALLENGES}
 use Rattle.challenge_book.specs.Keys.{KeyText, entry_of_cookie, entry_at, entry_named, has_cookie, is_asked, is_named, AreIndexed}
+use Rattle.challenge_book.specs.Users.{IsOneMore}
 use Rattle.challenge_book.proofs.Finding.{both, TellsApart}
 use Rattle.challenge_book.proofs.Indexing.{apart_with, apart_without, apart_answered, fewer, index_more, index_less, index_answered}
+use Rattle.challenge_book.proofs.Counting.{counted_more, counted_less, counted_answered}
 
 -- where the second of four tests is passed, one of them is
 second : (a b c d : Bool) → b ≡ true → (a || b || c || d) ≡ true
@@ -83,33 +85,37 @@ alike_empty false (x ∷ xs) [] = refl
 alike_empty false (x ∷ xs) (y ∷ ys) = refl
 
 -- the indexes after a challenge is opened, whose keys are put in
-pub opened : (items : List Pending) (row : Pending) (cookies cookies' : List (KeyText × ℕ)) (agents agents' : List ((ℕ × ℕ) × ℕ)) (ids ids' : List ((ℕ × KeyText) × ℕ)) → AreIndexed items cookies agents ids → IsFresh row items → length items < MAX_CHALLENGES
+pub opened : (items : List Pending) (row : Pending) (cookies cookies' : List (KeyText × ℕ)) (agents agents' : List ((ℕ × ℕ) × ℕ)) (ids ids' : List ((ℕ × KeyText) × ℕ)) (users users' : List (ℕ × ℕ)) → AreIndexed items cookies agents ids users → IsFresh row items → length items < MAX_CHALLENGES
     → ((q : KeyText) → entry_of_cookie cookies' q ≡ cond (has_cookie q row) (Some row.entry) (entry_of_cookie cookies q))
     → ((q : ℕ × ℕ) → entry_at agents' q ≡ cond (is_asked q row) (Some row.entry) (entry_at agents q))
     → ((q : ℕ × KeyText) → entry_named ids' q ≡ cond (not (is_empty row.cancel) && has_id q.0 (cow_slice_items q.1) row) (Some row.entry) (entry_named ids q))
-    → AreIndexed (items ++ row ∷ []) cookies' agents' ids'
-opened items row cookies cookies' agents agents' ids ids' is fresh room cookie asked id =
+    → IsOneMore row.asker_uid users users'
+    → AreIndexed (items ++ row ∷ []) cookies' agents' ids' users'
+opened items row cookies cookies' agents agents' ids ids' users users' is fresh room cookie asked id user =
     let long : length (items ++ row ∷ []) ≡ length items + 1 = length-append items (row ∷ []) in record {
       apart = apart_with row items fresh is.apart;
       few = omega (arith, long, room);
       cookies_are = index_more has_cookie (entry_of_cookie cookies) (entry_of_cookie cookies') items row cookie_tells fresh is.cookies_are cookie;
       agents_are = index_more is_asked (entry_at agents) (entry_at agents') items row asked_tells fresh is.agents_are asked;
       ids_are = index_more is_named (entry_named ids) (entry_named ids') items row named_tells fresh is.ids_are (λ q. id q ∙ ap (λ b. cond b (Some row.entry) (entry_named ids q)) (alike_empty (row.asker == q.0) row.cancel (cow_slice_items q.1)));
+      users_are = counted_more row items users users' is.users_are user;
     }
 
 -- the indexes after a challenge is closed, whose keys are taken out
-pub closed : (items : List Pending) (e : ℕ) (row : Pending) (cookies cookies' : List (KeyText × ℕ)) (agents agents' : List ((ℕ × ℕ) × ℕ)) (ids ids' : List ((ℕ × KeyText) × ℕ)) → AreIndexed items cookies agents ids → find (is_of_entry e) items ≡ Some row
+pub closed : (items : List Pending) (e : ℕ) (row : Pending) (cookies cookies' : List (KeyText × ℕ)) (agents agents' : List ((ℕ × ℕ) × ℕ)) (ids ids' : List ((ℕ × KeyText) × ℕ)) (users users' : List (ℕ × ℕ)) → AreIndexed items cookies agents ids users → find (is_of_entry e) items ≡ Some row
     → ((q : KeyText) → entry_of_cookie cookies' q ≡ cond (has_cookie q row) None (entry_of_cookie cookies q))
     → ((q : ℕ × ℕ) → entry_at agents' q ≡ cond (is_asked q row) None (entry_at agents q))
     → ((q : ℕ × KeyText) → entry_named ids' q ≡ cond (has_id q.0 (cow_slice_items q.1) row) None (entry_named ids q))
-    → AreIndexed (without e items) cookies' agents' ids'
-closed items e row cookies cookies' agents agents' ids ids' is found cookie asked id =
+    → IsOneMore row.asker_uid users' users
+    → AreIndexed (without e items) cookies' agents' ids' users'
+closed items e row cookies cookies' agents agents' ids ids' users users' is found cookie asked id user =
     let less = fewer e items in record {
       apart = apart_without e items is.apart;
       few = omega (arith, less, is.few);
       cookies_are = index_less has_cookie (entry_of_cookie cookies) (entry_of_cookie cookies') items e row cookie_tells is.apart found is.cookies_are cookie;
       agents_are = index_less is_asked (entry_at agents) (entry_at agents') items e row asked_tells is.apart found is.agents_are asked;
       ids_are = index_less is_named (entry_named ids) (entry_named ids') items e row named_tells is.apart found is.ids_are (λ q. id q ∙ empty_too q);
+      users_are = counted_less e row items users users' is.apart found is.users_are user;
     }
   where
     -- nothing stands at an empty id, so that taking it out changes nothing
@@ -122,14 +128,15 @@ closed items e row cookies cookies' agents agents' ids ids' is found cookie aske
         by false c none = refl
 
 -- the indexes after a challenge is answered
-pub noted : (items : List Pending) (e : ℕ) (identity : Identity) (cookies : List (KeyText × ℕ)) (agents : List ((ℕ × ℕ) × ℕ)) (ids : List ((ℕ × KeyText) × ℕ)) → AreIndexed items cookies agents ids → AreIndexed (map (answered_by e identity) items) cookies agents ids
-noted items e identity cookies agents ids is =
+pub noted : (items : List Pending) (e : ℕ) (identity : Identity) (cookies : List (KeyText × ℕ)) (agents : List ((ℕ × ℕ) × ℕ)) (ids : List ((ℕ × KeyText) × ℕ)) (users : List (ℕ × ℕ)) → AreIndexed items cookies agents ids users → AreIndexed (map (answered_by e identity) items) cookies agents ids users
+noted items e identity cookies agents ids users is =
     let long : length (map (answered_by e identity) items) ≡ length items = length-map items (answered_by e identity) in record {
       apart = apart_answered e identity items is.apart;
       few = omega (arith, long, is.few);
       cookies_are = index_answered has_cookie (entry_of_cookie cookies) items e identity (λ q x i. refl) is.cookies_are;
       agents_are = index_answered is_asked (entry_at agents) items e identity (λ q x i. refl) is.agents_are;
       ids_are = index_answered is_named (entry_named ids) items e identity (λ q x i. refl) is.ids_are;
+      users_are = counted_answered e identity items users is.users_are;
     }
 
 -- where there is room for one more challenge, there are fewer than may be

@@ -12,6 +12,7 @@ use Rattle.authority_model.specs.Cookies.{cookie_text}
 use Rattle.entry_changes.specs.Finding.{is_sent, has_id}
 use Rattle.entry_changes.specs.Changes.{AreApart}
 use Rattle.challenge_book.specs.declared.indexed.TheConstants.{MAX_CHALLENGES}
+use Rattle.challenge_book.specs.Users.{AreCounted}
 
 -- a text, owned or borrowed
 abbrev pub KeyText : Type 0
@@ -65,10 +66,11 @@ is_named q ch = not (is_empty (cow_slice_items q.1)) && has_id q.0 (cow_slice_it
 abbrev pub Indexes : {Q : Type 0} → (Q → Pending → Bool) → (Q → Option ℕ) → List Pending → Type 0
 Indexes {Q} test index items = (q : Q) → index q ≡ option_map (λ (ch : Pending). ch.entry) (find (test q) items)
 
--- No two challenges can be mistaken for each other, they can be counted in a u32, and each index names the entries of those that its look-up finds.
-pub record AreIndexed (items : List Pending) (cookies : List (KeyText × ℕ)) (agents : List ((ℕ × ℕ) × ℕ)) (ids : List ((ℕ × KeyText) × ℕ)) : Type 0 where
+-- No two challenges can be mistaken for each other, they can be counted in a u32, each index names the entries of those that its look-up finds, and those of each user are counted.
+pub record AreIndexed (items : List Pending) (cookies : List (KeyText × ℕ)) (agents : List ((ℕ × ℕ) × ℕ)) (ids : List ((ℕ × KeyText) × ℕ)) (users : List (ℕ × ℕ)) : Type 0 where
   pub apart : AreApart items
   pub few : length items ≤ MAX_CHALLENGES
   pub cookies_are : Indexes has_cookie (entry_of_cookie cookies) items
   pub agents_are : Indexes is_asked (entry_at agents) items
   pub ids_are : Indexes is_named (entry_named ids) items
+  pub users_are : AreCounted users items

@@ -1,5 +1,5 @@
 // The pending challenges, and the change of them that is staged.
-ghost use Rattle.std.specs.Prelude.{◌≡◌, ◌≤◌, [], None, Some, IsSome, find, filter, length, slice_get, option_to_list, false, IsOk, IfOk, OnOk, OnErr};
+ghost use Rattle.std.specs.Prelude.{◌≡◌, ◌≤◌, [], None, Some, IsSome, find, filter, length, slice_get, false, IsOk, IfOk, OnOk, OnErr};
 ghost use Rattle.std.specs.Option.{option_copied};
 ghost use Rattle.entry_changes.specs.declared.change.ChallengeChange.{ChallengeChange as TheChange};
 ghost use Rattle.entry_changes.specs.declared.change.ChallengeChange.TheVariants.{Begun};
@@ -42,16 +42,6 @@ impl Model for ChallengeBook {
     ghost view = { λ a. record { items = a.rows.items; staged = option_map (λ s. s.change) a.staged } };
 
     ghost invariant = { λ a. IsReady a.rows.room a.staged };
-}
-
-/// One, if there is a challenge and it is of a check of this user.
-fn one_of(row: Option<&Pending>, uid: u32) -> u32
-    ensures one { result ≡ length (filter (is_of_user uid) (option_to_list (option_copied row.entry))) }
-{
-    match row {
-        Some(row) if row.asker_uid == uid => 1,
-        _ => 0,
-    }
 }
 
 /// Takes all memory that a change needs: room and keys for the challenge that it opens.
@@ -166,11 +156,7 @@ impl ChallengeBook {
     pub fn count_of_uid(&self, uid: u32) -> u32
         ensures count { result ≡ length (filter (is_of_user uid) self.now.items) }
     {
-        let mut count = 0;
-        for i in 0..self.rows.len() {
-            count += one_of(self.rows.nth(i), uid);
-        }
-        count
+        self.rows.count_of_uid(uid)
     }
 
     /// Takes all memory that a change needs, and stages it in place of what was staged before.

@@ -1,7 +1,7 @@
 // The pending challenges in the order of opening, with an index for each look-up.
-ghost use Rattle.std.specs.Prelude.{◌≡◌, ◌<◌, ◌≤◌, ◌++◌, ◌∷◌, [], find, map, length, slice_get, OnOk};
+ghost use Rattle.std.specs.Prelude.{◌≡◌, ◌<◌, ◌≤◌, ◌++◌, ◌∷◌, [], find, filter, map, length, slice_get, OnOk};
 ghost use Rattle.std.specs.Option.{option_copied};
-ghost use Rattle.entry_changes.specs.Finding.{is_sent, named as first_named};
+ghost use Rattle.entry_changes.specs.Finding.{is_of_user, is_sent, named as first_named};
 ghost use Rattle.entry_changes.specs.Finding.{with_cookie};
 ghost use Rattle.entry_changes.specs.Changes.{AreApart, IsFresh, without, answered_by};
 ghost use Rattle.challenge_book.specs.Ready.{AreKeysOf};
@@ -13,6 +13,7 @@ use crate::indexes::{
     put_named, take_asked, take_cookie, take_named,
 };
 use crate::rows::PendingRows;
+use crate::user_counts::UserCounts;
 use authority_model::Pending;
 use indexmap::IndexMap;
 use pk_types::{Identity, NoMemory, Text};
@@ -29,6 +30,7 @@ pub struct IndexedRows {
     by_cookie: CookieIndex,
     by_agent: AgentIndex,
     by_cancel: CancelIndex,
+    by_user: UserCounts,
 }
 
 impl Model for IndexedRows {
@@ -42,10 +44,10 @@ impl Model for IndexedRows {
 
     ghost view = { λ a. record {
       items = a.rows.items;
-      room = min (MAX_CHALLENGES - length a.rows.items) (min a.rows.room (min (spare a.by_cookie) (min (spare a.by_agent) (spare a.by_cancel))));
+      room = min (MAX_CHALLENGES - length a.rows.items) (min a.rows.room (min (spare a.by_cookie) (min (spare a.by_agent) (min (spare a.by_cancel) a.by_user.room))));
     } };
 
-    ghost invariant = { λ a. AreIndexed a.rows.items a.by_cookie.entries a.by_agent.entries a.by_cancel.entries };
+    ghost invariant = { λ a. AreIndexed a.rows.items a.by_cookie.entries a.by_agent.entries a.by_cancel.entries a.by_user.entries };
 }
 
 impl IndexedRows {
@@ -58,6 +60,7 @@ impl IndexedRows {
             by_cookie: IndexMap::new(alloc),
             by_agent: IndexMap::new(alloc),
             by_cancel: IndexMap::new(alloc),
+            by_user: UserCounts::new(alloc),
         }
     }
 
@@ -107,6 +110,13 @@ impl IndexedRows {
         }
     }
 
+    /// How many challenges are of checks of a user.
+    pub fn count_of_uid(&self, uid: u32) -> u32
+        ensures count { result ≡ length (filter (is_of_user uid) self.now.items) }
+    {
+        self.by_user.of(uid)
+    }
+
     /// Takes room for one more challenge. A refusal leaves the challenges as they were.
     pub fn reserve(&mut self) -> Result<(), NoMemory>
         ensures items { self.new.items ≡ self.old.items }
@@ -119,6 +129,7 @@ impl IndexedRows {
         self.by_cookie.reserve(1)?;
         self.by_agent.reserve(1)?;
         self.by_cancel.reserve(1)?;
+        self.by_user.reserve()?;
         Ok(())
     }
 
@@ -137,6 +148,7 @@ impl IndexedRows {
         put_cookie(&mut self.by_cookie, cookie, row.entry);
         put_asked(&mut self.by_agent, row.agent, row.agent_serial, row.entry);
         put_named(&mut self.by_cancel, row.asker, cancel, row.entry);
+        self.by_user.count_up(row.asker_uid);
         self.rows.push(Filed { row, cookie_text });
     }
 
@@ -154,6 +166,7 @@ impl IndexedRows {
             filed.row.asker,
             filed.row.cancel.bytes(),
         );
+        self.by_user.count_down(filed.row.asker_uid);
     }
 
     /// Notes who answered the challenge that an entry opened.

@@ -11,6 +11,7 @@ mod filed;
 mod indexed;
 mod indexes;
 mod rows;
+mod user_counts;
 
 pub use book::ChallengeBook;
 pub use indexed::MAX_CHALLENGES;

@@ -3,9 +3,6 @@ pub mod AgentRights
 pub mod AgentChanges
 pub mod GrantTexts
 pub mod GrantChanges
-pub mod KnownPeers
-pub mod KnownRising
-pub mod KnownLive
 pub mod ChallengeLists
 pub mod ChallengeAgents
 pub mod ChallengeSteps

@@ -17,7 +17,7 @@ use Rattle.authority_model.specs.declared.pending.Pending.{Pending}
 use Rattle.authority_model.specs.declared.pending.TheConstants.{MAX_PENDING}
 use Rattle.authority_model.specs.declared.policy.Action.{Action}
 use Rattle.authority_model.specs.declared.verdict.RuleSource.{RuleSource}
-use Rattle.entry_changes.specs.Steps.{◌>>=◌, guard}
+use Rattle.authority_model.specs.Steps.{◌>>=◌, guard}
 use Rattle.authority_model.specs.Interaction.{allows_interaction}
 use Rattle.authority_model.specs.Facts.{Facts}
 use Rattle.authority_model.specs.Rules.{action_of}
@@ -36,7 +36,7 @@ use Rattle.authority_model.specs.Trust.{trusted}
 use Rattle.authority_model.specs.Legal.{Follows}
 use Rattle.authority_laws.proofs.Deciding.{Backed, decided_backed}
 use Rattle.authority_laws.proofs.Asking.{Silent}
-use Rattle.authority_model.specs.Challenges.{opened_at}
+use Rattle.authority_laws.proofs.Opening.{opened_at}
 
 -- the challenge that a question's outputs tell of
 abbrev told : List Item → ℕ → Question → List Output → Option Pending

@@ -5,7 +5,8 @@ use Rattle.std.specs.List.{position_or_len}
 use Rattle.std.proofs.lemmas.List.{length-drop}
 use borrow.Author.Tests.{ltb-false}
 use Rattle.std.proofs.lemmas.Bool.{eqb-true}
-use Rattle.authority_model.specs.Words.{Bytes, is_blank, words, runs, run_joined}
+use Rattle.pk_types.specs.Text.{is_blank}
+use Rattle.authority_model.specs.Words.{Bytes, words, runs, run_joined}
 
 -- the place, or else the length
 pub unwrap_or-position : (p : ℕ → Bool) (xs : List ℕ) → position_or_len p xs ≤ length xs → unwrap_or (position p xs) (length xs) ≡ position_or_len p xs

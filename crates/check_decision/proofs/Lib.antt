@@ -1,3 +1,1 @@
 pub mod FirstWord
-pub mod Least
-pub mod LeastAction

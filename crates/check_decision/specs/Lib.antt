@@ -1,1 +1,2 @@
 pub mod DecisionRef
+pub mod Owners

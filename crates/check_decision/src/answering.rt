@@ -38,7 +38,8 @@ pub fn may_answer(
     uid: u32,
     identity: Identity,
 ) -> Result<bool, NoMemory>
-    ensures may { (past : List Item) → loaded.now ≡ loaded_of past → IfOk result (λ may. may ≡ verdicts.may_answer past value uid identity) }
+    ensures may { (past : List Item) → loaded.now ≡ loaded_of past
+        → IfOk result (λ may. may ≡ verdicts.may_answer past value uid identity) }
 {
     let offered = allowed(alloc, loaded, value, uid)?;
     Ok(offers(offered.as_slice(), identity))

@@ -1,27 +1,19 @@
-//! The decision on a subject's facts, and its verdict.
+//! What a decision is, its verdict, who may answer a challenge, and who owns an action: what a check
+//! asks of a policy and a world alone, and of no temporary authorization.
 //!
-//! A decision is the decision that the definitions take on a check: by uid 0, by the value of the
-//! action, by a temporary authorization, or by an action that implies this one. Taking it needs no
-//! memory, and its cost grows with the number of actions times the length of an annotation.
-//! Verdicts and identities take memory.
+//! A decision itself takes no memory. Verdicts and identities take memory.
 #![tactic(auto)]
 
-mod annotations;
 mod answering;
-mod decide;
 mod decisions;
-mod grants;
-mod implying;
-mod order;
 mod owners;
-mod returns;
 mod values;
 mod verdicts;
 mod words;
 
-pub use answering::allowed;
-pub use decide::decision;
+pub use answering::{allowed, may_answer};
 pub use decisions::DecisionRef;
 pub use owners::owns;
-pub use returns::return_verdict;
-pub use verdicts::{no, verdict};
+pub use values::{is_auth, is_keep, is_yes};
+pub use verdicts::{granted, no, verdict};
+pub use words::has_word;

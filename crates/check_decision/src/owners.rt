@@ -1,10 +1,9 @@
 // Owners of actions (the annotation org.freedesktop.policykit.owner of polkit(8)).
-ghost use Rattle.std.specs.Prelude.{◌≡◌, ◌==◌, false};
-ghost use Rattle.std.specs.Option.{option_map_or};
+ghost use Rattle.std.specs.Prelude.{◌≡◌, ◌==◌};
 ghost use Rattle.authority_model.specs.Lists.{any_of};
 ghost use Rattle.authority_model.specs.Words.{words};
-ghost use Rattle.authority_model.specs.Worlds as worlds;
 ghost use Rattle.authority_model.specs.Trust as trust;
+ghost use Rattle.check_decision.specs.Owners as owners;
 
 use crate::words::next_word;
 use authority_model::{Action, World};
@@ -35,7 +34,7 @@ fn covers(world: &World, uid: u32, identity: Identity) -> bool
 
 /// Whether the identity that a word names covers a user; a word that names nobody covers nobody.
 fn word_covers(world: &World, uid: u32, word: &[u8]) -> bool
-    ensures covers { result ≡ option_map_or (trust.covers world.now uid) (worlds.identity_of world.now word.now) false }
+    ensures covers { result ≡ owners.word_covers world.now uid word.now }
 {
     match world.identity_of(word) {
         Some(identity) => covers(world, uid, identity),
@@ -45,7 +44,7 @@ fn word_covers(world: &World, uid: u32, word: &[u8]) -> bool
 
 /// Whether a word of a text covers a user.
 fn some_word_covers(world: &World, uid: u32, text: &[u8]) -> bool
-    ensures covers { result ≡ any_of (λ w. option_map_or (trust.covers world.now uid) (worlds.identity_of world.now w) false) (words text.now) }
+    ensures covers { result ≡ any_of (owners.word_covers world.now uid) (words text.now) }
 {
     let mut rest = text;
     while let Some((word, after)) = next_word(rest) {

@@ -98,7 +98,8 @@ pub fn verdict(
     policy: &Policy,
     decision: &DecisionRef<'_>,
 ) -> Result<Verdict, NoMemory>
-    ensures verdict { (past : List Item) → policy.now ≡ policy_of past → IfOk result (λ v. v ≡ verdict_of past (decision_seen decision.now)) }
+    ensures verdict { (past : List Item) → policy.now ≡ policy_of past
+        → IfOk result (λ v. v ≡ verdict_of past (decision_seen decision.now)) }
 {
     match decision {
         DecisionRef::Root => Ok(yes(Reason::Root, List::new(alloc))),

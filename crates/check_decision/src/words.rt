@@ -3,32 +3,27 @@ ghost use Rattle.std.specs.Prelude.{◌≡◌, [], ◌∷◌, ◌<◌, ◌≤◌
 ghost use Rattle.std.specs.List.{position_or_len};
 ghost use Rattle.authority_model.specs.Lists.{any_of};
 ghost use Rattle.authority_model.specs.Words.{words};
-ghost use Rattle.authority_model.specs.Words as words_of;
+ghost use Rattle.pk_types.specs.Text as text_of;
 
-/// Whether a byte is a space, a tab or an LF.
-fn is_blank(b: u8) -> bool
-    ensures blank { result ≡ words_of.is_blank b }
-{
-    b == b' ' || b == b'\t' || b == b'\n'
-}
+use pk_types::is_blank;
 
 /// The first byte of a text that is not a blank.
 fn first_other(text: &[u8]) -> Option<usize>
-    ensures first { result ≡ position (λ b. not (words_of.is_blank b)) text.now }
+    ensures first { result ≡ position (λ b. not (text_of.is_blank b)) text.now }
 {
     text.iter().position(|b| !is_blank(*b))
 }
 
 /// The first blank of a text.
 fn first_blank(text: &[u8]) -> Option<usize>
-    ensures first { result ≡ position words_of.is_blank text.now }
+    ensures first { result ≡ position text_of.is_blank text.now }
 {
     text.iter().position(|b| is_blank(*b))
 }
 
 /// How many blanks there are at the front of a text.
 fn blanks(text: &[u8]) -> usize
-    ensures first { result ≡ position_or_len (λ b. not (words_of.is_blank b)) text.now }
+    ensures first { result ≡ position_or_len (λ b. not (text_of.is_blank b)) text.now }
     ensures within { result ≤ length text.now }
 {
     first_other(text).unwrap_or(text.len())
@@ -36,7 +31,7 @@ fn blanks(text: &[u8]) -> usize
 
 /// How many bytes come before the first blank of a text.
 fn front_len(text: &[u8]) -> usize
-    ensures first { result ≡ position_or_len words_of.is_blank text.now }
+    ensures first { result ≡ position_or_len text_of.is_blank text.now }
     ensures within { result ≤ length text.now }
 {
     first_blank(text).unwrap_or(text.len())

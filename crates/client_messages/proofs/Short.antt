@@ -6,6 +6,7 @@ use Rattle.std.specs.Int.{w32, w64}
 use Rattle.pk_types.specs.Text.{IsText}
 use Rattle.pk_types.specs.declared.values.Identity.{Identity}
 use Rattle.pk_types.specs.declared.values.Subject.{Subject}
+use Rattle.dbus_values.specs.declared.codes.TheConstants.{MAX_MESSAGE}
 use Rattle.dbus_values.specs.Basics.{gap}
 use Rattle.dbus_values.specs.Trees.{Tree, Trees, none, more, type_of, types_of, bytes_of, padding, marshalled, all_marshalled}
 use Rattle.dbus_values.specs.Trees as trees
@@ -128,7 +129,7 @@ field_within : (sig : Bytes) → length sig ≤ 32 → FieldsWithin 45 (signatur
 field_within [] le at = omega (arith, fields_none at)
 field_within (c ∷ sig) le at = signature_within 32 0 (c ∷ sig) [] le fields_none at
 
-not_over : (n : ℕ) → n ≤ 16777216 → nat_lt 16777216 n ≡ false
+not_over : (n : ℕ) → n ≤ MAX_MESSAGE → nat_lt MAX_MESSAGE n ≡ false
 not_over n le = grind (arith, nat_tests)
 
 fits : (asked : Method) (values : List Tree) (n : ℕ) → types_of (row values) ≡ (row_of asked).takes → AllWithin n (row values) → n ≤ 1000000 → is_over (calling asked values) ≡ false

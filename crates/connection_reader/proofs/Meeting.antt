@@ -1,6 +1,7 @@
 -- What a reader did, once its pass has learned of others' items.
 use Rattle.std.proofs.Common.{◌≤◌, ℕ, List, [], ◌∷◌, Bool, inl, inr}
 use Rattle.std.specs.Prelude.{◌⊎◌}
+use Rattle.history_lock.specs.declared.machine.TheConstants.{MOST_PASSES}
 use Rattle.history_lock.specs.Known.{Known}
 use Rattle.history_lock.specs.Calls.{Learned}
 use Rattle.history_lock.proofs.Growth.{learned_begins}
@@ -38,7 +39,7 @@ refused_learned uid s t w l r = (r.0, either r.1)
     either (inr x) = inr (reading_learned uid (r.0 ∷ []) (What.Of Depart ∷ []) s t w l x)
 
 -- a cause that fits goes on to fit, and is kept
-pub reads_learned : (limits : Limits) (uid : ℕ) (s t : Hand) (ended : Bool) (w : Known Item) (end : ReaderEnd) → Learned caller_of IsJournal t.pass w → w.made ≤ 1048576
+pub reads_learned : (limits : Limits) (uid : ℕ) (s t : Hand) (ended : Bool) (w : Known Item) (end : ReaderEnd) → Learned caller_of IsJournal t.pass w → w.made ≤ MOST_PASSES
     → ReadsTo limits uid s t ended end → ReadsTo limits uid s (record t { pass = w }) ended end
 reads_learned limits uid s t ended w reader.Done l top r = ((reading_learned uid [] (What.Of Depart ∷ []) s t w l r.0.0, r.0.1), r.1, r.2)
 reads_learned limits uid s t ended w (reader.Truncated rest) l top r = ((reading_learned uid [] (What.Of Depart ∷ []) s t w l r.0.0, r.0.1), r.1, r.2, r.3, r.4)

@@ -20,6 +20,7 @@ use Rattle.connection_writer.proofs.Writes.{writes_learned}
 use Rattle.connection_writer.specs.declared.ends.WriterEnd.{WriterEnd}
 use Rattle.connection_writer.specs.declared.ends.WriterEnd.TheVariants as writer
 use Rattle.connection_writer.specs.Writing.{HasGone, WritesTo}
+use Rattle.history_lock.specs.declared.machine.TheConstants.{MOST_PASSES}
 use Rattle.history_lock.proofs.Growth.{learned_begins}
 use Rattle.history_lock.specs.Calls.{Learned}
 use Rattle.history_lock.specs.declared.machine.EndCause.{EndCause}
@@ -29,7 +30,7 @@ use Rattle.shared_authority.specs.Journals.{Fits, IsJournal, caller_of, past_of}
 use Rattle.shared_authority.specs.Lasting.{fits_lasts}
 
 -- a kept cause goes on to be known, and to fit
-fits_learned : (limits : Limits) (cause : EndCause) (w w' : Known Item) → Learned caller_of IsJournal w w' → w'.made ≤ 1048576 → Fits limits cause w.history w.made → Fits limits cause w'.history w'.made
+fits_learned : (limits : Limits) (cause : EndCause) (w w' : Known Item) → Learned caller_of IsJournal w w' → w'.made ≤ MOST_PASSES → Fits limits cause w.history w.made → Fits limits cause w'.history w'.made
 fits_learned limits cause w w' l top fits = fits_lasts limits cause w.history w'.history w.made w'.made fits l.legal (learned_begins caller_of IsJournal w w' l) l.made top
 
 kept_learned : (cause : EndCause) (w w' : Known Item) → Learned caller_of IsJournal w w' → w.ended ≡ Some cause → w'.ended ≡ Some cause
@@ -58,7 +59,7 @@ refused_learned uid s t w l (g, inl r) = (g, inl (reading_learned uid (g ∷ [])
 refused_learned uid s t w l (g, inr r) = (g, inr (reading_learned uid (g ∷ []) _ s t w l r))
 
 -- what the reader said
-pub reads_met : (limits : Limits) (uid : ℕ) (s t : Hand) (ended : Bool) (end : ReaderEnd) (w : Known Item) → Learned caller_of IsJournal t.pass w → w.made ≤ 1048576 → ReadsTo limits uid s t ended end → ReadsTo limits uid s (with_pass t w) ended end
+pub reads_met : (limits : Limits) (uid : ℕ) (s t : Hand) (ended : Bool) (end : ReaderEnd) (w : Known Item) → Learned caller_of IsJournal t.pass w → w.made ≤ MOST_PASSES → ReadsTo limits uid s t ended end → ReadsTo limits uid s (with_pass t w) ended end
 reads_met limits uid s t ended reader.Done w l top r = ((reading_learned uid [] _ s t w l r.0.0, r.0.1), r.1, r.2)
 reads_met limits uid s t ended (reader.Truncated rest) w l top r = ((reading_learned uid [] _ s t w l r.0.0, r.0.1), r.1, r.2, r.3, r.4)
 reads_met limits uid s t ended (reader.BadBytes _ at) w l top r = ((reading_learned uid [] _ s t w l r.0.0, r.0.1), r.1)
@@ -81,7 +82,7 @@ gone_learned n v w w' other is l gone =
     }
 
 -- what the writer said
-pub writes_met : (limits : Limits) (n : ℕ) (a : Option (List ℕ)) (before : ℕ) (v : Known Item) (b : Option (List ℕ)) (now : ℕ) (w : Known Item) (end : WriterEnd) (w' : Known Item) → n ≢ 0 → Learned caller_of IsJournal w w' → w'.made ≤ 1048576
+pub writes_met : (limits : Limits) (n : ℕ) (a : Option (List ℕ)) (before : ℕ) (v : Known Item) (b : Option (List ℕ)) (now : ℕ) (w : Known Item) (end : WriterEnd) (w' : Known Item) → n ≢ 0 → Learned caller_of IsJournal w w' → w'.made ≤ MOST_PASSES
     → WritesTo limits n a before v b now w end → WritesTo limits n a before v b now w' end
 writes_met limits n a before v b now w writer.All w' other l top s = (writes_learned true (Got a b) n v w w' s.0 l, gone_learned n v w w' other s.0.knows.number l s.1)
 writes_met limits n a before v b now w (writer.Ended cause) w' other l top s = (writes_learned false (Got a b) n v w w' s.0 l, fits_learned limits cause w w' l top s.1, kept_learned cause w w' l s.2)

@@ -25,6 +25,7 @@ use Rattle.connection_serve.specs.Headline.{EndFaults, EndFits, EndIsKept, EndsE
 use Rattle.connection_writer.specs.declared.ends.WriterEnd.{WriterEnd}
 use Rattle.connection_writer.specs.declared.ends.WriterEnd.TheVariants as writer
 use Rattle.connection_writer.specs.Writing.{Writing, WritesTo, taken_texts}
+use Rattle.history_lock.specs.declared.machine.TheConstants.{MOST_PASSES}
 use Rattle.history_lock.specs.Calls.{Learned}
 use Rattle.history_lock.specs.Entries.{NoneBy}
 use Rattle.history_lock.specs.Known.{Known}
@@ -38,7 +39,7 @@ use Rattle.shared_authority.specs.Journals.{Fits, IsJournal, caller_of, past_of}
 
 -- the two halves go on to say what they said
 pub halves_met : (limits : Limits) (uid : ℕ) (s t : Hand) (ended : Bool) (v w : Known Item) (a b : Option (List ℕ)) (r0 r1 w0 w1 : ℕ) (read : ReaderEnd) (wrote : WriterEnd) (p c : Known Item)
-    → s.pass.number ≢ 0 → Learned caller_of IsJournal t.pass p → Learned caller_of IsJournal w c → p.made ≤ 1048576 → c.made ≤ 1048576
+    → s.pass.number ≢ 0 → Learned caller_of IsJournal t.pass p → Learned caller_of IsJournal w c → p.made ≤ MOST_PASSES → c.made ≤ MOST_PASSES
     → Halves limits uid s t ended v w a b r0 r1 w0 w1 read wrote → Halves limits uid s (with_pass t p) ended v c a b r0 r1 w0 w1 read wrote
 halves_met limits uid s t ended v w a b r0 r1 w0 w1 read wrote p c other lp lc top_p top_c h = record {
   reads = reads_met limits uid s t ended read p lp top_p h.reads;

@@ -74,7 +74,8 @@ fn read_beside<
     read
 }
 
-/// Reads the connection, and lends its writer to both threads meanwhile.
+/// Reads the connection, and lends the collecting pass and the sink to both threads meanwhile. The two
+/// come back, with how writing has ended, if it has.
 fn read_with_writer<
     'a,
     'b,
@@ -91,33 +92,53 @@ fn read_with_writer<
     rt: &'a R,
     alloc: Global,
     shared: &'a Shared<L, T>,
-    writer: Writer<'w, L, T, O>,
+    collector: &'w mut Pass<Kept<L>, T>,
+    sink: &'w mut O,
     by: u32,
+    of: u32,
     pass: &'b mut Pass<Kept<L>, T>,
     uid: u32,
     clock: &'b mut C,
     salt: &'b mut S,
     source: &'b mut I,
     buffer: &'b mut MessageBuffer,
-) -> (Writer<'w, L, T, O>, ReaderEnd)
-    requires of { (writer.of ≡ B.of) × (B.of ≢ 0) }
-    requires names { (writer.pass.ghost_name ≡ B.pass_name) × (writer.sink.ghost_name ≡ B.sink_name) }
-    requires stands { StandsAt L.limits B.of B.held B.faults B.pass (O.held writer.sink.now) (O.faults writer.sink.now) writer.pass.now writer.end }
+) -> (
+    &'w mut Pass<Kept<L>, T>,
+    &'w mut O,
+    Option<WriterEnd>,
+    ReaderEnd,
+)
+    requires of { (of ≡ B.of) × (B.of ≢ 0) }
+    requires names { (collector.ghost_name ≡ B.pass_name) × (sink.ghost_name ≡ B.sink_name) }
+    requires stands { StandsAt L.limits B.of B.held B.faults B.pass (O.held sink.old) (O.faults sink.old) collector.old None }
     requires fresh { NoneBy caller_of pass.old.number pass.old.history }
     requires free { IsFree O.allowed }
-    ensures names { let (writer, read) = result in (writer.pass.ghost_name ≡ B.pass_name) × (writer.sink.ghost_name ≡ B.sink_name) }
-    ensures stands { let (writer, read) = result in StandsAt L.limits B.of B.held B.faults B.pass (O.held writer.sink.now) (O.faults writer.sink.now) writer.pass.now writer.end }
-    ensures reads { let (writer, read) = result in ReadsTo L.limits uid (hand pass.old (I.left source.old) (C.gave clock.old) (S.gave salt.old) buffer.old)
+    ensures names { let (collector, sink, end, read) = result in (collector.ghost_name ≡ B.pass_name) × (sink.ghost_name ≡ B.sink_name) }
+    ensures stands { let (collector, sink, end, read) = result in StandsAt L.limits B.of B.held B.faults B.pass (O.held sink.now) (O.faults sink.now) collector.now end }
+    ensures reads { let (collector, sink, end, read) = result in ReadsTo L.limits uid (hand pass.old (I.left source.old) (C.gave clock.old) (S.gave salt.old) buffer.old)
         (hand pass.new (I.left source.new) (C.gave clock.new) (S.gave salt.new) buffer.new) (I.ended source.new) read }
-    ensures faults { let (writer, read) = result in ReadFaults I.left I.faults source.old source.new read }
+    ensures faults { let (collector, sink, end, read) = result in ReadFaults I.left I.faults source.old source.new read }
     ensures origin { I.origin source.new ≡ I.origin source.old }
 {
-    let of = writer.of;
+    let writer = Writer {
+        pass: collector,
+        sink,
+        alloc,
+        of,
+        end: None,
+    };
     let desk: Mutex<Desk<L, T, O, B>> = Mutex::new(Desk::new(writer));
     let read = read_beside(
         rt, alloc, shared, &desk, by, of, pass, uid, clock, salt, source, buffer,
     );
-    (desk.into_inner().into_writer(), read)
+    let Writer {
+        pass: collector,
+        sink,
+        alloc: _,
+        of: _,
+        end,
+    } = desk.into_inner().into_writer();
+    (collector, sink, end, read)
 }
 
 /// Writes on where writing has not ended yet.
@@ -180,23 +201,9 @@ fn beside<
     ensures origin { I.origin source.new ≡ I.origin source.old }
 {
     let by = collector.number();
-    let writer = Writer {
-        pass: collector,
-        sink,
-        alloc,
-        of,
-        end: None,
-    };
-    let (writer, read) = read_with_writer::<L, T, O, Brand, I, C, S, R>(
-        rt, alloc, shared, writer, by, pass, uid, clock, salt, source, buffer,
+    let (collector, sink, end, read) = read_with_writer::<L, T, O, Brand, I, C, S, R>(
+        rt, alloc, shared, collector, sink, by, of, pass, uid, clock, salt, source, buffer,
     );
-    let Writer {
-        pass: collector,
-        sink,
-        alloc: _,
-        of: _,
-        end,
-    } = writer;
     let wrote = finish(rt, alloc, shared, collector, of, sink, end);
     (wrote, read)
 }

@@ -6,8 +6,12 @@
 
 ghost use Rattle.pk_outside.specs.Allowing.{IsFree};
 
+mod fault;
+
+use crate::fault::words_fault;
 use command_line::{ProgramTexts, WordsRefused, words};
 use pk_outside::{Station, Tree};
+use pk_types::Text;
 use polkit_daemon::{Status, polkitd};
 use real_outside::{ReadSource, WriteSink};
 use std::io;
@@ -46,15 +50,29 @@ Options, each alone:
 Exit status: 0 done, 1 usage, 2 the files below DIR cannot be read or are refused, 3 read fault,
 4 write fault, 5 the journal is full or all numbers of connections are used up, 6 a line or a
 message that is not in its grammar, 7 a socket could not be made or failed, 70 out of memory, 71 the
-system gives no random words. Any but 0 is told by one line on standard error.
+system gives no random words. Any but 0 is told on standard error.
 ",
-    version: "polkitd 0.105.0\n",
+    version: "polkitd 0.105.0 (proved 0.2.0)\n",
 };
 
+/// What stands behind a fault of the words.
+const USAGE: &str = "polkitd --help shows the usage";
+
+/// Tells on standard error what is wrong with words that name no command, and where the usage is.
+fn tell_fault<R: Eprint>(rt: &R, words: &[Text]) {
+    if let Some(fault) = words_fault(words) {
+        let _ = eprintln!(rt; "error: {fault}");
+    }
+    let _ = eprintln!(rt; "{USAGE}");
+}
+
 /// How the program ends where its words could not be read.
-fn without_words(refused: WordsRefused) -> Status {
+fn without_words<R: Eprint>(rt: &R, refused: WordsRefused) -> Status {
     match refused {
-        WordsRefused::NotText => Status::Usage,
+        WordsRefused::NotText => {
+            let _ = eprintln!(rt; "error: a word is not a text\n{USAGE}");
+            Status::Usage
+        }
         WordsRefused::NoMemory => Status::NoMemory,
     }
 }
@@ -62,7 +80,7 @@ fn without_words(refused: WordsRefused) -> Status {
 /// Does what the words ask for.
 fn command<R, T, N>(rt: &R, tree: &mut T, station: &mut N) -> Status
 where
-    R: Threads + Wait + Sync + Env + Input + Print + AllocGlobal,
+    R: Threads + Wait + Sync + Env + Input + Print + Eprint + AllocGlobal,
     R::Reader: Send,
     T: Tree,
     N: Station,
@@ -70,7 +88,7 @@ where
 {
     let words = match words(rt) {
         Ok(words) => words,
-        Err(refused) => return without_words(refused),
+        Err(refused) => return without_words(rt, refused),
     };
     if let Some(text) = TEXTS.asked_by(words.as_slice()) {
         return match print!(rt; "{text}") {
@@ -80,7 +98,7 @@ where
     }
     let mut input = ReadSource::new(rt.reader());
     let mut output = WriteSink::new(io::writer(rt));
-    polkitd(
+    let status = polkitd(
         rt,
         rt.alloc(),
         words.as_slice(),
@@ -88,11 +106,16 @@ where
         station,
         &mut input,
         &mut output,
-    )
+    );
+    if matches!(status, Status::Usage) {
+        tell_fault(rt, words.as_slice());
+    }
+    status
 }
 
 /// Runs the program over the files of a tree and the sockets of a station, and answers its exit
-/// code. A status other than `Done` is told by one line on standard error.
+/// code. A status other than `Done` and `Usage` is told by one line on standard error, and what is
+/// wrong with the words by two.
 pub fn run<R, T, N>(rt: &R, tree: &mut T, station: &mut N) -> ExitCode
 where
     R: Threads + Wait + Sync + Env + Input + Print + Eprint + AllocGlobal,
@@ -102,8 +125,11 @@ where
     requires free_door { IsFree N.Door.Link.Out.allowed }
 {
     let status = command(rt, tree, station);
-    if status.code() != 0 {
-        let _ = eprintln!(rt; "{status}");
+    match status {
+        Status::Done | Status::Usage => {}
+        _ => {
+            let _ = eprintln!(rt; "{status}");
+        }
     }
     ExitCode::from(status.code())
 }

@@ -2,6 +2,7 @@
 use Rattle.std.proofs.Common.{◌≡◌, ℕ, ◌+◌, ◌≤◌, List, [], ◌∷◌, ◌++◌, length, Bool, true, cond, eqb, Ok, refl, sym, ap, ◌∙◌, arith}
 use Rattle.std.proofs.lemmas.Bool.{eqb-true}
 use Rattle.std.proofs.lemmas.List.{append-nil}
+use Rattle.dbus_values.specs.declared.codes.TheConstants.{MAX_MESSAGE}
 use Rattle.dbus_values.specs.declared.fault.FaultKind.TheVariants as fault
 use Rattle.dbus_values.specs.Reading.{bad, spot_at}
 use Rattle.dbus_values.specs.Walk.{Walked, walked, state, parts, values_at, most_parts}
@@ -16,7 +17,7 @@ no_rest : (bytes : List ℕ) → eqb (length bytes) 0 ≡ true → bytes ≡ []
 no_rest [] e = refl
 no_rest (b ∷ bytes) e = let k : length (b ∷ bytes) ≡ 0 = eqb-true _ _ e in absurd (omega arith)
 
-pub body_values : (big : Bool) (sig : List ℕ) (at n : ℕ) (bytes : List ℕ) → IsBytes bytes → at + length bytes ≤ 16777216 → body_at big sig at bytes ≡ Ok n
+pub body_values : (big : Bool) (sig : List ℕ) (at n : ℕ) (bytes : List ℕ) → IsBytes bytes → at + length bytes ≤ MAX_MESSAGE → body_at big sig at bytes ≡ Ok n
     → (ts : Trees) × AllFit 64 ts × (sig ≡ types_of ts) × (parts n 64 big (state [] sig at bytes) ≡ all_pieces ts)
 unfolding body_at
 body_values big sig at n bytes fits short e =
@@ -26,7 +27,7 @@ body_values big sig at n bytes fits short e =
     let ts = r.trees in
     let m = all_marshalled big at ts in
     let bytes_are : bytes ≡ m = r.bytes_are ∙ ap (λ (y : List ℕ). m ++ y) (no_rest b.0.rest h.0) ∙ append-nil m in
-    let small : length m ≤ 16777216 = omega (arith, ap length bytes_are, short) in
+    let small : length m ≤ MAX_MESSAGE = omega (arith, ap length bytes_are, short) in
     let again = values_again 64 big ts at [] (omega arith) r.fit small in
     let same : values_at 64 big sig at bytes ≡ Ok (walked (length (all_pieces ts)) (spot_at (at + length m) [])) =
     ap (λ (s : List ℕ). values_at 64 big s at bytes) r.sig_is ∙ ap (λ (x : List ℕ). values_at 64 big (types_of ts) at x) (bytes_are ∙ sym (append-nil m)) ∙ again in

@@ -3,6 +3,7 @@ use Rattle.std.proofs.Common.{◌≡◌, ℕ, zero, suc, ◌+◌, ◌*◌, ◌<�
 use Rattle.std.specs.Int.{w32}
 use Rattle.std.proofs.lemmas.List.{length-append, append-nil}
 use Rattle.std.proofs.Math.Nat.{mul-le-mul_right}
+use Rattle.dbus_values.specs.declared.codes.TheConstants.{MAX_MESSAGE}
 use Rattle.dbus_values.specs.Reading.{◌>>=◌, spot_at}
 use Rattle.dbus_values.specs.Parts.{Piece}
 use Rattle.dbus_values.specs.Parts as part
@@ -126,7 +127,7 @@ walk_whole (suc n) i limit big s (p ∷ ps) at rest lt path = go (walk_whole n (
   go ih false undone = let k : i + length (p ∷ ps) ≡ i + 1 + length ps = omega arith in rw (path.1, k) ih
 
 -- What was marshalled by a signature is read by it, whatever follows it.
-pub values_again : (d : ℕ) (big : Bool) (ts : Trees) (at : ℕ) (rest : List ℕ) → d ≤ 64 → Each (FitsAs false d) ts → length (all_marshalled big at ts) ≤ 16777216
+pub values_again : (d : ℕ) (big : Bool) (ts : Trees) (at : ℕ) (rest : List ℕ) → d ≤ 64 → Each (FitsAs false d) ts → length (all_marshalled big at ts) ≤ MAX_MESSAGE
     → values_at d big (types_of ts) at (all_marshalled big at ts ++ rest) ≡ Ok (walked (length (all_pieces ts)) (spot_at (at + length (all_marshalled big at ts)) rest))
 values_again d big ts at rest le each short =
     let few = few_parts d ts big at each in

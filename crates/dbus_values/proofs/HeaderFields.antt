@@ -4,6 +4,7 @@ use Rattle.std.specs.Prelude.{◌==◌, ◌||◌, ◌&&◌}
 use Rattle.std.specs.Int.{w32}
 use Rattle.std.proofs.lemmas.Bool.{le-ltb, lt-ltb, eqb-true, eq-eqb}
 use Rattle.std.proofs.lemmas.List.{length-append, append-nil}
+use Rattle.dbus_values.specs.declared.codes.TheConstants.{MAX_MESSAGE}
 use Rattle.dbus_values.specs.declared.class.Class.{Class}
 use Rattle.dbus_values.specs.declared.class.Class.TheVariants as class
 use Rattle.dbus_values.specs.Reading.{Spot, spot_at}
@@ -108,7 +109,7 @@ known_again big start c at (Entry k v) h rest is lt = absurd is
 known_again big start c at (Variant t) h rest is lt = absurd is
 
 -- an unknown field behind its code
-unknown_again : (big : Bool) (at : ℕ) (v : Tree) (rest : List ℕ) → IsUnknown v → length (marshalled big at (Variant v)) ≤ 16777216
+unknown_again : (big : Bool) (at : ℕ) (v : Tree) (rest : List ℕ) → IsUnknown v → length (marshalled big at (Variant v)) ≤ MAX_MESSAGE
     → passed_field big at (marshalled big at (Variant v) ++ rest) ≡ Ok (spot_at (at + length (marshalled big at (Variant v))) rest)
 unfolding passed_field
 unknown_again big at v rest is le =
@@ -118,7 +119,7 @@ unknown_again big at v rest is le =
     let all1 : values_at 62 big (118 ∷ []) at (m ++ rest) ≡ Ok (walked n (spot_at (at + length m) rest)) = subst (λ (x : List ℕ). values_at 62 big (118 ∷ []) at (x ++ rest) ≡ Ok (walked n (spot_at (at + length x) rest))) (append-nil m) all in
     rw all1 refl
 
-pub field_again : (big : Bool) (h : Header) (at : ℕ) (f : Field) (rest : List ℕ) → IsField h f → length (field_bytes big at f) ≤ 16777216 → field_at big h at (field_bytes big at f ++ rest) ≡ Ok (put h f, spot_at (at + length (field_bytes big at f)) rest)
+pub field_again : (big : Bool) (h : Header) (at : ℕ) (f : Field) (rest : List ℕ) → IsField h f → length (field_bytes big at f) ≤ MAX_MESSAGE → field_at big h at (field_bytes big at f ++ rest) ≡ Ok (put h f, spot_at (at + length (field_bytes big at f)) rest)
 unfolding field_at byte_at
 field_again big h at f rest is le = go is.value where
   g : ℕ
@@ -149,7 +150,7 @@ field_again big h at f rest is le = go is.value where
       let read = unknown_again big (at + gap 8 at + 1) f.value rest unknown.1 (omega (arith, size)) in
       rw (split, zeros_again (gap 8 at) at (f.code ∷ (marshalled big (at + gap 8 at + 1) (Variant f.value) ++ rest)), first, is.once, high, read, size) refl
 
-pub fields_again : (n : ℕ) (big : Bool) (h : Header) (at : ℕ) (fs : List Field) → AreFields h fs → length (fields_bytes big at fs) ≤ n → length (fields_bytes big at fs) ≤ 16777216 → fields_at n big h at (fields_bytes big at fs) ≡ Ok (header_from h fs)
+pub fields_again : (n : ℕ) (big : Bool) (h : Header) (at : ℕ) (fs : List Field) → AreFields h fs → length (fields_bytes big at fs) ≤ n → length (fields_bytes big at fs) ≤ MAX_MESSAGE → fields_at n big h at (fields_bytes big at fs) ≡ Ok (header_from h fs)
 unfolding fields_at
 fields_again zero big h at [] are le short = refl
 fields_again (suc n) big h at [] are le short = refl

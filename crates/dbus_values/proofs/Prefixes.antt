@@ -3,6 +3,7 @@ use Rattle.std.proofs.Common.{◌≡◌, ℕ, ◌+◌, ◌<◌, ◌≤◌, List,
 use Rattle.std.specs.Int.{w32}
 use Rattle.std.proofs.lemmas.Bool.{ltb-false, ltb-true, le-ltb}
 use Rattle.std.proofs.lemmas.List.{take-append-le, drop-append-le, get_or_append_left, take-append-drop, length-append, length-take, length-drop}
+use Rattle.dbus_values.specs.declared.codes.TheConstants.{MAX_BODY, MAX_MESSAGE}
 use Rattle.dbus_values.specs.declared.fault.FaultKind.{FaultKind}
 use Rattle.dbus_values.specs.declared.fault.FaultKind.TheVariants as fault
 use Rattle.dbus_values.specs.declared.fault.Stop.{Stop}
@@ -65,7 +66,7 @@ flags_stay bytes more = needs_stay 4 bytes more _ _ (λ le. ap (λ (b : ℕ). co
 
 body_stays : (big : Bool) (bytes more : List ℕ) → Stays (body_of big bytes) (body_of big (bytes ++ more))
 unfolding body_of
-body_stays big bytes more = needs_stay 8 bytes more _ _ (λ le. ap (λ (n : ℕ). cond (ltb 16777200 n) (wrong fault.Length 4) (Ok n)) (u32_stays big bytes more 4 (omega arith)))
+body_stays big bytes more = needs_stay 8 bytes more _ _ (λ le. ap (λ (n : ℕ). cond (ltb MAX_BODY n) (wrong fault.Length 4) (Ok n)) (u32_stays big bytes more 4 (omega arith)))
 
 serial_stays : (big : Bool) (bytes more : List ℕ) → Stays (serial_of big bytes) (serial_of big (bytes ++ more))
 unfolding serial_of
@@ -73,7 +74,7 @@ serial_stays big bytes more = needs_stay 12 bytes more _ _ (λ le. ap (λ (n : �
 
 fields_stay : (big : Bool) (body : ℕ) (bytes more : List ℕ) → Stays (fields_of big body bytes) (fields_of big body (bytes ++ more))
 unfolding fields_of
-fields_stay big body bytes more = needs_stay 16 bytes more _ _ (λ le. ap (λ (n : ℕ). cond (ltb 16777216 (16 + (n + gap 8 n) + body)) (wrong fault.Length 12) (Ok n)) (u32_stays big bytes more 12 (omega arith)))
+fields_stay big body bytes more = needs_stay 16 bytes more _ _ (λ le. ap (λ (n : ℕ). cond (ltb MAX_MESSAGE (16 + (n + gap 8 n) + body)) (wrong fault.Length 12) (Ok n)) (u32_stays big bytes more 12 (omega arith)))
 
 pub start_stays : (bytes more : List ℕ) → Stays (start_of bytes) (start_of (bytes ++ more))
 unfolding start_of
@@ -198,13 +199,13 @@ start_firm bytes le =
     bind_firm _ _ (needs_firm 1 bytes _ (omega arith) (cond_firm (eqb (get_or bytes 0 0) 108) _ _ tt (cond_firm (eqb (get_or bytes 0 0) 66) _ _ tt tt))) (λ big.
     bind_firm _ _ (needs_firm 2 bytes _ (omega arith) (cond_firm (eqb (get_or bytes 1 0) 0) _ _ tt tt)) (λ kind.
     bind_firm _ _ (needs_firm 4 bytes _ (omega arith) (cond_firm (eqb (get_or bytes 3 0) 1) _ _ tt tt)) (λ flags.
-    bind_firm _ _ (needs_firm 8 bytes _ (omega arith) (cond_firm (ltb 16777200 (u32_of big bytes 4)) _ _ tt tt)) (λ body.
+    bind_firm _ _ (needs_firm 8 bytes _ (omega arith) (cond_firm (ltb MAX_BODY (u32_of big bytes 4)) _ _ tt tt)) (λ body.
     bind_firm _ _ (needs_firm 12 bytes _ (omega arith) (cond_firm (eqb (u32_of big bytes 8) 0) _ _ tt tt)) (λ serial.
-    bind_firm _ _ (needs_firm 16 bytes _ (omega arith) (cond_firm (ltb 16777216 (16 + (u32_of big bytes 12 + gap 8 (u32_of big bytes 12)) + body)) _ _ tt tt)) (λ fields. tt))))))
+    bind_firm _ _ (needs_firm 16 bytes _ (omega arith) (cond_firm (ltb MAX_MESSAGE (16 + (u32_of big bytes 12 + gap 8 (u32_of big bytes 12)) + body)) _ _ tt tt)) (λ fields. tt))))))
 
-pub partial_short : (bytes : List ℕ) → next_of bytes ≡ Partial → length bytes < 16777216
+pub partial_short : (bytes : List ℕ) → next_of bytes ≡ Partial → length bytes < MAX_MESSAGE
 partial_short bytes e = go (start_of bytes) refl e where
-  put_off : start_of bytes ≡ Err stop.Partial → (b : Bool) → ltb (length bytes) 16 ≡ b → length bytes < 16777216
+  put_off : start_of bytes ≡ Err stop.Partial → (b : Bool) → ltb (length bytes) 16 ≡ b → length bytes < MAX_MESSAGE
   put_off is true lt = let k = ltb-true _ _ lt in omega arith
   put_off is false lt = absurd (subst Firm is (start_firm bytes (ltb-false _ _ lt)))
 
@@ -215,14 +216,14 @@ partial_short bytes e = go (start_of bytes) refl e where
   read s (Ok x) h = cc
   read s (Err f) h = faulty f.kind f.at h
 
-  sized : (s : Start) → start_of bytes ≡ Ok s → (b : Bool) → ltb (length bytes) (total s) ≡ b → cond b Partial (message_on s (message_of s bytes)) ≡ Partial → length bytes < 16777216
+  sized : (s : Start) → start_of bytes ≡ Ok s → (b : Bool) → ltb (length bytes) (total s) ≡ b → cond b Partial (message_on s (message_of s bytes)) ≡ Partial → length bytes < MAX_MESSAGE
   sized s is true lt h =
       let k = ltb-true _ _ lt in
       let small = (start_found bytes s is).small in
       omega arith
   sized s is false lt h = absurd (read s (message_of s bytes) h)
 
-  go : (r : Result Start Stop) → start_of bytes ≡ r → start_on bytes r ≡ Partial → length bytes < 16777216
+  go : (r : Result Start Stop) → start_of bytes ≡ r → start_on bytes r ≡ Partial → length bytes < MAX_MESSAGE
   go (Ok s) is h = sized s is (ltb (length bytes) (total s)) refl h
   go (Err stop.Partial) is h = put_off is (ltb (length bytes) 16) refl
   go (Err (stop.Bad f)) is h = absurd (faulty f.kind f.at h)

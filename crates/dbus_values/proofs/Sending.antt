@@ -2,6 +2,7 @@
 use Rattle.std.proofs.Common.{◌≡◌, ℕ, ◌+◌, ◌-◌, ◌<◌, ◌≤◌, ◌^◌, List, [], ◌∷◌, ◌++◌, length, take, drop, true, false, Option, Some, refl, ap, sym, subst, ◌∙◌, append_assoc, arith, length-append, inl, inr, ◌⊎◌, lit<, lit≤}
 use Rattle.std.proofs.lemmas.List.{append-nil, take_at, drop_at}
 use Rattle.std.specs.Int.{w32}
+use Rattle.dbus_values.specs.declared.codes.TheConstants.{MAX_MESSAGE}
 use Rattle.dbus_values.specs.declared.value.Value.{Value, Bool as Truth, Struct, Array}
 use Rattle.dbus_values.specs.declared.value.ValueList.{ValueList}
 use Rattle.dbus_values.specs.Basics.{gap, is_text}
@@ -144,13 +145,13 @@ after_padding m s1 s2 s3 s1-is s2-is s3-is =
     let e : s3 ≡ (start m ++ fields_of m) ++ padding (gap 8 (16 + length (fields_of m))) = s3-is ∙ ap (λ (q : ℕ). s2 ++ padding (gap 8 q)) f.1 ∙ ap (λ (y : List ℕ). y ++ padding (gap 8 (16 + length (fields_of m)))) f.0 in
     (e, omega (arith, ap length s3-is, length-padded s2 (gap 8 (length s2)), ap (λ (q : ℕ). gap 8 q) f.1, f.1))
 
-pub fields_fit : (m : Message) (s1 : List ℕ) → IsMessage false m → s1 ≡ start m → length s1 + length (fields_bytes false (length s1) m.fields) ≤ 16777216
+pub fields_fit : (m : Message) (s1 : List ℕ) → IsMessage false m → s1 ≡ start m → length s1 + length (fields_bytes false (length s1) m.fields) ≤ MAX_MESSAGE
 fields_fit m s1 is s1-is =
     let len : length s1 ≡ 16 = ap length s1-is ∙ start_length m in
     let short = is.short in
     omega (arith, len, ap (λ (q : ℕ). length (fields_bytes false q m.fields)) len, message_length m, short)
 
-pub body_fits : (m : Message) (s1 s2 s3 : List ℕ) → IsMessage false m → s1 ≡ start m → s2 ≡ s1 ++ fields_bytes false (length s1) m.fields → s3 ≡ s2 ++ padding (gap 8 (length s2)) → length (s3 ++ all_marshalled false (length s3) m.body) ≤ 16777216
+pub body_fits : (m : Message) (s1 s2 s3 : List ℕ) → IsMessage false m → s1 ≡ start m → s2 ≡ s1 ++ fields_bytes false (length s1) m.fields → s3 ≡ s2 ++ padding (gap 8 (length s2)) → length (s3 ++ all_marshalled false (length s3) m.body) ≤ MAX_MESSAGE
 body_fits m s1 s2 s3 is s1-is s2-is s3-is =
     let p = after_padding m s1 s2 s3 s1-is s2-is s3-is in
     let short = is.short in
@@ -159,7 +160,7 @@ body_fits m s1 s2 s3 is s1-is s2-is s3-is =
 pub body_forms : (vs : List Value) → Each (FitsAs false 64) (list_trees vs) → AllForm vs
 body_forms vs each = each_forms (FitsAs false 64) (λ t f. (false, 64, f)) vs each
 
-pub sizes_fit : (s3 s4 b : List ℕ) (size : ℕ) → s4 ≡ s3 ++ b → length (s3 ++ b) ≤ 16777216 → size ≡ length s4 - length s3 → size < 2 ^ 32
+pub sizes_fit : (s3 s4 b : List ℕ) (size : ℕ) → s4 ≡ s3 ++ b → length (s3 ++ b) ≤ MAX_MESSAGE → size ≡ length s4 - length s3 → size < 2 ^ 32
 sizes_fit s3 s4 b size s4-is short size-is = omega (arith, ap length s4-is, size-is, short)
 
 filled : (m : Message) (t s4 s5 s6 : List ℕ) (nb nf : ℕ) → s4 ≡ start m ++ t → s5 ≡ take 4 s4 ++ (bytes_of false w32 nb ++ drop 8 s4) → s6 ≡ take 12 s5 ++ (bytes_of false w32 nf ++ drop 16 s5)

@@ -3,6 +3,7 @@ use Rattle.std.proofs.Common.{◌≡◌, ℕ, ◌+◌, ◌<◌, ◌≤◌, ◌^�
 use Rattle.std.specs.Int.{w32}
 use Rattle.std.proofs.lemmas.Bool.{le-ltb}
 use Rattle.std.proofs.lemmas.List.{take_at, drop_at, length-append, append-nil}
+use Rattle.dbus_values.specs.declared.codes.TheConstants.{MAX_BODY, MAX_MESSAGE}
 use Rattle.dbus_values.specs.Reading.{Spot, spot_at}
 use Rattle.dbus_values.specs.Parts.{Piece}
 use Rattle.dbus_values.specs.Basics.{gap}
@@ -42,11 +43,11 @@ flags_is bytes flags le is version =
     let e : ltb (length bytes) 4 ≡ false = le-ltb _ _ (omega arith) in
     rw (e, version, is) refl
 
-body_is : (big : Bool) (bytes : List ℕ) (n : ℕ) → 16 ≤ length bytes → u32_of big bytes 4 ≡ n → n ≤ 16777200 → body_of big bytes ≡ Ok n
+body_is : (big : Bool) (bytes : List ℕ) (n : ℕ) → 16 ≤ length bytes → u32_of big bytes 4 ≡ n → n ≤ MAX_BODY → body_of big bytes ≡ Ok n
 unfolding body_of
 body_is big bytes n le is small =
     let e : ltb (length bytes) 8 ≡ false = le-ltb _ _ (omega arith) in
-    let s : ltb 16777200 n ≡ false = le-ltb _ _ small in
+    let s : ltb MAX_BODY n ≡ false = le-ltb _ _ small in
     rw (e, is, s) refl
 
 serial_is : (big : Bool) (bytes : List ℕ) (n : ℕ) → 16 ≤ length bytes → u32_of big bytes 8 ≡ n → 0 < n → serial_of big bytes ≡ Ok n
@@ -56,11 +57,11 @@ serial_is big bytes n le is pos =
     let some : eqb n 0 ≡ false = not_zero n (omega arith) in
     rw (e, is, some) refl
 
-fields_is : (big : Bool) (body : ℕ) (bytes : List ℕ) (n : ℕ) → 16 ≤ length bytes → u32_of big bytes 12 ≡ n → 16 + (n + gap 8 n) + body ≤ 16777216 → fields_of big body bytes ≡ Ok n
+fields_is : (big : Bool) (body : ℕ) (bytes : List ℕ) (n : ℕ) → 16 ≤ length bytes → u32_of big bytes 12 ≡ n → 16 + (n + gap 8 n) + body ≤ MAX_MESSAGE → fields_of big body bytes ≡ Ok n
 unfolding fields_of
 fields_is big body bytes n le is small =
     let e : ltb (length bytes) 16 ≡ false = le-ltb _ _ (omega arith) in
-    let s : ltb 16777216 (16 + (n + gap 8 n) + body) ≡ false = le-ltb _ _ small in
+    let s : ltb MAX_MESSAGE (16 + (n + gap 8 n) + body) ≡ false = le-ltb _ _ small in
     rw (e, is, s) refl
 
 start_is : (s : Start) (bytes : List ℕ) → order_of bytes ≡ Ok s.big → kind_of bytes ≡ Ok s.kind → flags_of bytes ≡ Ok s.flags → body_of s.big bytes ≡ Ok s.body → serial_of s.big bytes ≡ Ok s.serial → fields_of s.big s.body bytes ≡ Ok s.fields → start_of bytes ≡ Ok s
@@ -89,7 +90,7 @@ first_rest big kind flags body serial fields rest =
     let len : length ((a ++ b) ++ c) ≡ 16 = omega (arith, length-append (a ++ b) c, length-append a b, wide32.len big body, wide32.len big serial, wide32.len big fields) in
     ap (λ (x : List ℕ). drop 16 x) r ∙ drop_at ((a ++ b) ++ c) rest 16 len
 
-pub start_again : (big : Bool) (kind flags body serial fields : ℕ) (rest : List ℕ) → 0 < kind → 0 < serial → serial < 2 ^ 32 → 16 + (fields + gap 8 fields) + body ≤ 16777216
+pub start_again : (big : Bool) (kind flags body serial fields : ℕ) (rest : List ℕ) → 0 < kind → 0 < serial → serial < 2 ^ 32 → 16 + (fields + gap 8 fields) + body ≤ MAX_MESSAGE
     → start_of (first_bytes big kind flags body serial fields rest) ≡ Ok (record { big = big; kind = kind; flags = flags; body = body; serial = serial; fields = fields })
 unfolding first_bytes
 start_again big kind flags body serial fields rest kind_pos serial_pos serial_lt small =
@@ -114,14 +115,14 @@ start_again big kind flags body serial fields rest kind_pos serial_pos serial_lt
 pub gap_16 : (n : ℕ) → gap 8 (16 + n) ≡ gap 8 n
 gap_16 n = omega arith
 
-body_again : (big : Bool) (ts : Trees) (at : ℕ) → Each (FitsAs false 64) ts → length (all_marshalled big at ts) ≤ 16777216 → body_at big (types_of ts) at (all_marshalled big at ts) ≡ Ok (length (all_pieces ts))
+body_again : (big : Bool) (ts : Trees) (at : ℕ) → Each (FitsAs false 64) ts → length (all_marshalled big at ts) ≤ MAX_MESSAGE → body_at big (types_of ts) at (all_marshalled big at ts) ≡ Ok (length (all_pieces ts))
 unfolding body_at
 body_again big ts at each short =
     let m = all_marshalled big at ts in
     let all : values_at 64 big (types_of ts) at m ≡ Ok (walked (length (all_pieces ts)) (spot_at (at + length m) [])) = subst (λ (x : List ℕ). values_at 64 big (types_of ts) at x ≡ Ok (walked (length (all_pieces ts)) (spot_at (at + length m) []))) (append-nil m) (values_again 64 big ts at [] (omega arith) each short) in
     rw all refl
 
-padded_again : (big : Bool) (ts : Trees) (at : ℕ) → Each (FitsAs false 64) ts → length (all_marshalled big (at + gap 8 at) ts) ≤ 16777216
+padded_again : (big : Bool) (ts : Trees) (at : ℕ) → Each (FitsAs false 64) ts → length (all_marshalled big (at + gap 8 at) ts) ≤ MAX_MESSAGE
     → padded_body big (types_of ts) at (padding (gap 8 at) ++ all_marshalled big (at + gap 8 at) ts) ≡ Ok (length (all_pieces ts), spot_at (at + gap 8 at) (all_marshalled big (at + gap 8 at) ts))
 unfolding padded_body
 padded_again big ts at each short = rw (zeros_again (gap 8 at) at (all_marshalled big (at + gap 8 at) ts), body_again big ts (at + gap 8 at) each short) refl
@@ -158,7 +159,7 @@ read_again big m more is =
     let lf : length (fields ++ tail) ≡ F + length tail = length-append fields tail in
     let whole : length (message_bytes big m) ≡ 16 + (F + gap 8 F) + L = omega (arith, length-first big m.kind m.flags L m.serial F (fields ++ tail), lt, lf, gap_16 F) in
     let short = is.short in
-    let small : 16 + (F + gap 8 F) + L ≤ 16777216 = omega (arith, whole) in
+    let small : 16 + (F + gap 8 F) + L ≤ MAX_MESSAGE = omega (arith, whole) in
     let bytes = message_bytes big m ++ more in
     let a = bytes_of big w32 L in
     let b = bytes_of big w32 m.serial in

@@ -3,6 +3,7 @@ use Rattle.std.proofs.Common.{◌≡◌, ℕ, zero, suc, ◌+◌, ◌-◌, ◌<�
 use Rattle.std.specs.Int.{w32}
 use Rattle.std.proofs.lemmas.Bool.{ltb-false, eqb-true, eqb-false}
 use Rattle.std.proofs.lemmas.List.{take_at, take-append-drop, length-append, length-take, length-drop, append-nil}
+use Rattle.dbus_values.specs.declared.codes.TheConstants.{MAX_BODY, MAX_MESSAGE}
 use Rattle.dbus_values.specs.declared.fault.Fault.{Fault}
 use Rattle.dbus_values.specs.declared.fault.FaultKind.TheVariants as fault
 use Rattle.dbus_values.specs.declared.fault.Stop.{Stop}
@@ -34,7 +35,7 @@ pub record Started (bytes : List ℕ) (s : Start) : Type 0 where
   serial : u32_of s.big bytes 8 ≡ s.serial
   serial_pos : 0 < s.serial
   fields : u32_of s.big bytes 12 ≡ s.fields
-  pub small : total s ≤ 16777216
+  pub small : total s ≤ MAX_MESSAGE
 
 stop_ok_is : {A : Type 0} (x y : A) → ◌≡◌ {A = Result A Stop} (Ok x) (Ok y) → x ≡ y
 stop_ok_is x y e = ok_is {E = Stop} x y e
@@ -79,8 +80,8 @@ body_found : (big : Bool) (bytes : List ℕ) (n : ℕ) → body_of big bytes ≡
 unfolding body_of
 body_found big bytes n e =
     let b = u32_of big bytes 4 in
-    let g = guard_ok (ltb (length bytes) 8) stop.Partial (cond (ltb 16777200 b) (wrong fault.Length 4) (Ok b)) n e in
-    let h = guard_ok (ltb 16777200 b) (stop.Bad (record { kind = fault.Length; at = 4 })) (Ok b) n g.1 in
+    let g = guard_ok (ltb (length bytes) 8) stop.Partial (cond (ltb MAX_BODY b) (wrong fault.Length 4) (Ok b)) n e in
+    let h = guard_ok (ltb MAX_BODY b) (stop.Bad (record { kind = fault.Length; at = 4 })) (Ok b) n g.1 in
     stop_ok_is b n h.1
 
 serial_found : (big : Bool) (bytes : List ℕ) (n : ℕ) → serial_of big bytes ≡ Ok n → (u32_of big bytes 8 ≡ n) × (0 < n)
@@ -92,14 +93,14 @@ serial_found big bytes n e =
     let same = stop_ok_is b n h.1 in
     (same, subst (λ (k : ℕ). 0 < k) same (pos_from b h.0))
 
-fields_start : (big : Bool) (body : ℕ) (bytes : List ℕ) (n : ℕ) → fields_of big body bytes ≡ Ok n → (16 ≤ length bytes) × (u32_of big bytes 12 ≡ n) × (16 + (n + gap 8 n) + body ≤ 16777216)
+fields_start : (big : Bool) (body : ℕ) (bytes : List ℕ) (n : ℕ) → fields_of big body bytes ≡ Ok n → (16 ≤ length bytes) × (u32_of big bytes 12 ≡ n) × (16 + (n + gap 8 n) + body ≤ MAX_MESSAGE)
 unfolding fields_of
 fields_start big body bytes n e =
     let b = u32_of big bytes 12 in
-    let g = guard_ok (ltb (length bytes) 16) stop.Partial (cond (ltb 16777216 (16 + (b + gap 8 b) + body)) (wrong fault.Length 12) (Ok b)) n e in
-    let h = guard_ok (ltb 16777216 (16 + (b + gap 8 b) + body)) (stop.Bad (record { kind = fault.Length; at = 12 })) (Ok b) n g.1 in
+    let g = guard_ok (ltb (length bytes) 16) stop.Partial (cond (ltb MAX_MESSAGE (16 + (b + gap 8 b) + body)) (wrong fault.Length 12) (Ok b)) n e in
+    let h = guard_ok (ltb MAX_MESSAGE (16 + (b + gap 8 b) + body)) (stop.Bad (record { kind = fault.Length; at = 12 })) (Ok b) n g.1 in
     let same = stop_ok_is b n h.1 in
-    (ltb-false _ _ g.0, same, subst (λ (k : ℕ). 16 + (k + gap 8 k) + body ≤ 16777216) same (ltb-false _ _ h.0))
+    (ltb-false _ _ g.0, same, subst (λ (k : ℕ). 16 + (k + gap 8 k) + body ≤ MAX_MESSAGE) same (ltb-false _ _ h.0))
 
 pub start_found : (bytes : List ℕ) (s : Start) → start_of bytes ≡ Ok s → Started bytes s
 unfolding start_of
@@ -252,7 +253,7 @@ message_found s bytes x fits st enough e =
     let regroup : first_bytes s.big s.kind s.flags (length body) s.serial (length F) ((F ++ A) ++ more) ≡ message_bytes s.big m ++ more =
     sym (ap (λ (y : List ℕ). order_byte s.big ∷ s.kind ∷ s.flags ∷ 1 ∷ y) (append_assoc wa (wb ++ (wc ++ (F ++ A))) more ∙ ap (λ (y : List ℕ). wa ++ y) (append_assoc wb (wc ++ (F ++ A)) more ∙ ap (λ (y : List ℕ). wb ++ y) (append_assoc wc (F ++ A) more)))) in
     let size : length (message_bytes s.big m) ≡ 16 + (length F + gap 8 (length F)) + length body = omega (arith, length-first s.big s.kind s.flags (length body) s.serial (length F) (F ++ A), length-append F A, length-append (padding (gap 8 (16 + length F))) body, length-padding (gap 8 (16 + length F)), gap_16 (length F)) in
-    let small : 16 + (length F + gap 8 (length F)) + length body ≤ 16777216 = subst (λ (q : ℕ). 16 + (q + gap 8 q) + length body ≤ 16777216) lF' (subst (λ (q : ℕ). 16 + (s.fields + gap 8 s.fields) + q ≤ 16777216) lB st.small) in
+    let small : 16 + (length F + gap 8 (length F)) + length body ≤ MAX_MESSAGE = subst (λ (q : ℕ). 16 + (q + gap 8 q) + length body ≤ MAX_MESSAGE) lF' (subst (λ (q : ℕ). 16 + (s.fields + gap 8 s.fields) + q ≤ MAX_MESSAGE) lB st.small) in
     let kind_byte = fits 1 in
     let flags_byte = fits 2 in
     let serial_small : u32_of s.big bytes 8 < 2 ^ 32 = wide32.below s.big (take 4 (drop 8 bytes)) (IsBytes-take 4 (drop 8 bytes) (IsBytes-drop 8 bytes fits)) in

@@ -3,6 +3,7 @@ use mathlib.Core.Former.{Count}
 use Rattle.std.proofs.Common.{◌≡◌, ℕ, zero, suc, ◌+◌, ◌-◌, ◌<◌, ◌≤◌, List, [], ◌∷◌, ◌++◌, length, get_or, take, drop, Bool, true, false, refl, ap, sym, subst, ◌∙◌, append_assoc, arith, length-append, drop-cons, add-one}
 use Rattle.std.proofs.lemmas.List.{append-nil, drop_all, take_at, drop_at}
 use Rattle.std.specs.Int.{w32}
+use Rattle.dbus_values.specs.declared.codes.TheConstants.{MAX_MESSAGE}
 use Rattle.dbus_values.specs.declared.value.Value.{Value, Struct, Struct', Array, Array', Row_of-Value, end_of-Value, more_of-Value, items-the_row-Value, items_hidden-the_row-Value-0}
 use Rattle.dbus_values.specs.declared.value.ValueList.{ValueList}
 use Rattle.std.specs.Prelude.{nat_le, ◌&&◌}
@@ -161,8 +162,8 @@ struct_is items value vs value-is vs-is = ap tree value-is ∙ tree_struct items
 pub struct_begin : (items : ValueList) (value : Value) (vs : List Value) → value ≡ Struct items → vs ≡ items.items.items → HasForm (tree value) → AllForm vs
 struct_begin items value vs value-is vs-is form = subst AllForm (sym vs-is) (struct_forms items (subst (λ (v : Value). HasForm (tree v)) value-is form))
 
-pub struct_short : (items : ValueList) (value : Value) (vs : List Value) (old padded : List ℕ) → value ≡ Struct items → vs ≡ items.items.items → padded ≡ old ++ padding (gap 8 (length old)) → length old + length (marshalled false (length old) (tree value)) ≤ 16777216
-    → length (padded ++ all_marshalled false (length padded) (list_trees vs)) ≤ 16777216
+pub struct_short : (items : ValueList) (value : Value) (vs : List Value) (old padded : List ℕ) → value ≡ Struct items → vs ≡ items.items.items → padded ≡ old ++ padding (gap 8 (length old)) → length old + length (marshalled false (length old) (tree value)) ≤ MAX_MESSAGE
+    → length (padded ++ all_marshalled false (length padded) (list_trees vs)) ≤ MAX_MESSAGE
 struct_short items value vs old padded value-is vs-is padded-is short =
     let at = length old in
     let place : length padded ≡ at + gap 8 at = ap length padded-is ∙ length-padded old (gap 8 at) in
@@ -207,7 +208,7 @@ array_size of ts at =
     omega (arith, length-append (padding (gap 4 at)) (b ++ (padding g ++ inside)), length-append b (padding g ++ inside), length-append (padding g) inside, length-padding (gap 4 at), length-padding g, wide32.len false (length inside))
 
 pub array_short : (of : List ℕ) (items : ValueList) (value : Value) (vs : List Value) (sig old p1 u p2 : List ℕ) → value ≡ Array of items → vs ≡ items.items.items → sig ≡ of → p1 ≡ old ++ padding (gap 4 (length old)) → u ≡ p1 ++ bytes_of false w32 0 → p2 ≡ u ++ padding (gap (item_align sig) (length u))
-    → length old + length (marshalled false (length old) (tree value)) ≤ 16777216 → length (p2 ++ all_marshalled false (length p2) (list_trees vs)) ≤ 16777216
+    → length old + length (marshalled false (length old) (tree value)) ≤ MAX_MESSAGE → length (p2 ++ all_marshalled false (length p2) (list_trees vs)) ≤ MAX_MESSAGE
 array_short of items value vs sig old p1 u p2 value-is vs-is sig-is p1-is u-is p2-is short =
     let at = length old in
     let place = array_place of sig old p1 u p2 sig-is p1-is u-is p2-is in
@@ -249,14 +250,14 @@ entry_size k v at =
     let n = marshalled false (at + gap 8 at + length m) v in
     omega (arith, length-append (padding (gap 8 at)) (m ++ n), length-append m n, length-padding (gap 8 at))
 
-pub key_short : (value : Value) (k v : Tree) (old padded : List ℕ) → tree value ≡ trees.Entry k v → padded ≡ old ++ padding (gap 8 (length old)) → length old + length (marshalled false (length old) (tree value)) ≤ 16777216 → length padded + length (marshalled false (length padded) k) ≤ 16777216
+pub key_short : (value : Value) (k v : Tree) (old padded : List ℕ) → tree value ≡ trees.Entry k v → padded ≡ old ++ padding (gap 8 (length old)) → length old + length (marshalled false (length old) (tree value)) ≤ MAX_MESSAGE → length padded + length (marshalled false (length padded) k) ≤ MAX_MESSAGE
 key_short value k v old padded is padded-is short =
     let at = length old in
     let place : length padded ≡ at + gap 8 at = ap length padded-is ∙ length-padded old (gap 8 at) in
     let same : length (marshalled false (length padded) k) ≡ length (marshalled false (at + gap 8 at) k) = ap (λ (q : ℕ). length (marshalled false q k)) place in
     omega (arith, ap (λ (t : Tree). length (marshalled false at t)) is, entry_size k v at, place, same, short)
 
-pub mapped_short : (value : Value) (k v : Tree) (old padded out : List ℕ) → tree value ≡ trees.Entry k v → padded ≡ old ++ padding (gap 8 (length old)) → out ≡ padded ++ marshalled false (length padded) k → length old + length (marshalled false (length old) (tree value)) ≤ 16777216 → length out + length (marshalled false (length out) v) ≤ 16777216
+pub mapped_short : (value : Value) (k v : Tree) (old padded out : List ℕ) → tree value ≡ trees.Entry k v → padded ≡ old ++ padding (gap 8 (length old)) → out ≡ padded ++ marshalled false (length padded) k → length old + length (marshalled false (length old) (tree value)) ≤ MAX_MESSAGE → length out + length (marshalled false (length out) v) ≤ MAX_MESSAGE
 mapped_short value k v old padded out is padded-is out-is short =
     let at = length old in
     let place : length padded ≡ at + gap 8 at = ap length padded-is ∙ length-padded old (gap 8 at) in
@@ -287,7 +288,7 @@ signature_short sig is = go (nat_le (length sig) 255) refl is where
 pub variant_form : (value v : Value) → tree value ≡ trees.Variant (tree v) → HasForm (tree value) → HasForm (tree v) × (length (type_of (tree v)) < 256)
 variant_form value v is form = let f = variant_forms (tree v) (subst HasForm is form) in (f.0, signature_short (type_of (tree v)) f.1)
 
-pub inner_short : (value : Value) (v : Tree) (old sig out : List ℕ) → tree value ≡ trees.Variant v → sig ≡ type_of v → out ≡ old ++ (length sig ∷ (sig ++ 0 ∷ [])) → length old + length (marshalled false (length old) (tree value)) ≤ 16777216 → length out + length (marshalled false (length out) v) ≤ 16777216
+pub inner_short : (value : Value) (v : Tree) (old sig out : List ℕ) → tree value ≡ trees.Variant v → sig ≡ type_of v → out ≡ old ++ (length sig ∷ (sig ++ 0 ∷ [])) → length old + length (marshalled false (length old) (tree value)) ≤ MAX_MESSAGE → length out + length (marshalled false (length out) v) ≤ MAX_MESSAGE
 inner_short value v old sig out is sig-is out-is short =
     let at = length old in
     let T = type_of v in

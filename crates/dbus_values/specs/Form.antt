@@ -1,6 +1,7 @@
 -- Messages, apart from any reading: "Message Format" and "Header Fields".
 use Rattle.std.specs.Prelude.{◌≡◌, ℕ, ◌+◌, ◌<◌, ◌≤◌, ◌^◌, nat_lt, Bool, false, if◌then◌else◌, List, [], ◌∷◌, ◌++◌, length, ◌⊎◌}
 use Rattle.std.specs.Int.{w32}
+use Rattle.dbus_values.specs.declared.codes.TheConstants.{MAX_MESSAGE}
 use Rattle.dbus_values.specs.Types.{class_of}
 use Rattle.dbus_values.specs.Basics.{gap}
 use Rattle.dbus_values.specs.Header.{Header, no_fields, has, put_text, put_number, type_code, lacks}
@@ -89,7 +90,7 @@ pub record IsMessage (big : Bool) (m : Message) : Type 0 where
   pub needs : lacks m.kind (header_of m) ≡ false
   pub signature : signature_of (header_of m) ≡ types_of m.body
   pub body : Each (FitsAs false 64) m.body
-  pub short : length (message_bytes big m) ≤ 16777216
+  pub short : length (message_bytes big m) ≤ MAX_MESSAGE
 
 -- the bytes are this message, in one of the two byte orders
 pub record WireForm (bytes : List ℕ) (m : Message) : Type 0 where

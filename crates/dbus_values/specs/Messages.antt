@@ -2,6 +2,7 @@
 use Rattle.std.specs.Prelude.{ℕ, ◌+◌, ◌==◌, nat_lt, Bool, true, false, if◌then◌else◌, List, [], length, take, drop, slice_index, Result, Ok, Err}
 use Rattle.std.specs.Option.{unwrap_or}
 use Rattle.std.specs.Int.{w32}
+use Rattle.dbus_values.specs.declared.codes.TheConstants.{MAX_BODY, MAX_MESSAGE}
 use Rattle.dbus_values.specs.declared.fault.Fault.{Fault}
 use Rattle.dbus_values.specs.declared.fault.FaultKind.{FaultKind}
 use Rattle.dbus_values.specs.declared.fault.FaultKind.TheVariants as fault
@@ -51,7 +52,7 @@ flags_of bytes = needs 4 bytes (if slice_index bytes 3 == 1 then Ok (slice_index
 
 -- the length of the body
 unfoldable pub body_of : Bool → List ℕ → Result ℕ Stop
-body_of big bytes = needs 8 bytes (if nat_lt 16777200 (u32_of big bytes 4) then wrong fault.Length 4 else Ok (u32_of big bytes 4))
+body_of big bytes = needs 8 bytes (if nat_lt MAX_BODY (u32_of big bytes 4) then wrong fault.Length 4 else Ok (u32_of big bytes 4))
 
 -- the serial, which is not 0
 unfoldable pub serial_of : Bool → List ℕ → Result ℕ Stop
@@ -60,7 +61,7 @@ serial_of big bytes = needs 12 bytes (if u32_of big bytes 8 == 0 then wrong faul
 -- the length of the array of header fields; the whole message has at most 16,777,216 bytes
 unfoldable pub fields_of : Bool → ℕ → List ℕ → Result ℕ Stop
 fields_of big body bytes = needs 16 bytes
-    (if nat_lt 16777216 (16 + (u32_of big bytes 12 + gap 8 (u32_of big bytes 12)) + body) then wrong fault.Length 12 else Ok (u32_of big bytes 12))
+    (if nat_lt MAX_MESSAGE (16 + (u32_of big bytes 12 + gap 8 (u32_of big bytes 12)) + body) then wrong fault.Length 12 else Ok (u32_of big bytes 12))
 
 -- The first 16 bytes, as far as they are there.
 unfoldable pub start_of : List ℕ → Result Start Stop

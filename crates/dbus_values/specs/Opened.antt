@@ -1,5 +1,6 @@
 -- The containers that are open at a place.
 use Rattle.std.specs.Prelude.{◌≡◌, ℕ, zero, suc, ◌+◌, ◌<◌, ◌≤◌, Bool, true, false, List, [], ◌∷◌, length, map, reverse, take, slice_index_or, Option, Some, None}
+use Rattle.dbus_values.specs.declared.codes.TheConstants.{MAX_MESSAGE}
 use Rattle.dbus_values.specs.declared.frames.Frame.{Frame}
 use Rattle.dbus_values.specs.declared.frames.Frame.TheVariants as frame
 
@@ -24,7 +25,7 @@ opened (frame.Inner types) = Inner types.now
 
 -- the bytes behind an array lie within the longest message
 abbrev pub IsWithin : Frame → Type 0
-IsWithin (frame.Items item types behind outside) = behind + length outside.now ≤ 16777216
+IsWithin (frame.Items item types behind outside) = behind + length outside.now ≤ MAX_MESSAGE
 IsWithin frame.Members = Unit {0}
 IsWithin frame.Key = Unit {0}
 IsWithin frame.Value = Unit {0}

@@ -1,5 +1,6 @@
 // The body of a message.
 ghost use Rattle.std.specs.Prelude.{◌≡◌, ◌+◌, ◌≤◌, [], length, Ok};
+ghost use Rattle.dbus_values.specs.declared.codes.TheConstants.{MAX_MESSAGE};
 ghost use Rattle.dbus_values.specs.Messages.{body_at};
 ghost use Rattle.dbus_values.specs.Walk.{state, parts};
 ghost use Rattle.dbus_values.specs.Next.{parts_of};
@@ -17,7 +18,7 @@ fn body_parts<'a>(
     at: usize,
     bytes: &'a [u8],
 ) -> Parts<'a>
-    requires short { at + length bytes.now ≤ 16777216 }
+    requires short { at + length bytes.now ≤ MAX_MESSAGE }
     requires read { body_at big signature.now at bytes.now ≡ Ok left }
     ensures parts { result ≡ parts left 64 big (state [] signature.now at bytes.now) }
     ensures values { (ts : Trees) × AllFit 64 ts × (signature.now ≡ types_of ts) × (result ≡ all_pieces ts) }

@@ -1,12 +1,13 @@
 // A place in a message, and the bytes from there to the end of what is read.
 ghost use Rattle.std.specs.Prelude.{◌≡◌, ◌+◌, ◌≤◌, length, drop};
+ghost use Rattle.dbus_values.specs.declared.codes.TheConstants.{MAX_MESSAGE};
 
 /// The bytes that are left, and how far from the message's first byte they are.
 #[derive(Clone, Copy)]
 pub struct Cursor<'a> {
     pub at: usize,
     pub rest: &'a [u8],
-    ghost fits: { at + length rest.now ≤ 16777216 },
+    ghost fits: { at + length rest.now ≤ MAX_MESSAGE },
 }
 
 impl<'a> Cursor<'a> {

@@ -1,5 +1,6 @@
 // Laws about the form of values and messages. Each is the contract of a function that does nothing.
 ghost use Rattle.std.specs.Prelude.{◌≡◌, ◌+◌, ◌<◌, ◌≤◌, ℕ, Bool, List, ◌++◌, length, take, Ok};
+ghost use Rattle.dbus_values.specs.declared.codes.TheConstants.{MAX_MESSAGE};
 ghost use Rattle.dbus_values.specs.declared.fault.FaultKind.{FaultKind};
 ghost use Rattle.dbus_values.specs.Awaiting.{awaited};
 ghost use Rattle.dbus_values.specs.Reading.{spot_at};
@@ -11,7 +12,7 @@ ghost use Rattle.dbus_values.specs.Streams.{IsForm, Stream, IsBytes};
 /// Values that were marshalled are read again by their signature, whatever follows them, in either
 /// byte order and at any place.
 pub fn values_are_read_again()
-    ensures again { (d : ℕ) (big : Bool) (ts : Trees) (at : ℕ) (rest : List ℕ) → d ≤ 64 → AllFit d ts → length (all_marshalled big at ts) ≤ 16777216
+    ensures again { (d : ℕ) (big : Bool) (ts : Trees) (at : ℕ) (rest : List ℕ) → d ≤ 64 → AllFit d ts → length (all_marshalled big at ts) ≤ MAX_MESSAGE
         → values_at d big (types_of ts) at (all_marshalled big at ts ++ rest) ≡ Ok (walked (length (all_pieces ts)) (spot_at (at + length (all_marshalled big at ts)) rest)) }
 {}
 
@@ -46,7 +47,7 @@ pub fn an_answer_stays()
 pub fn a_shorter_text_is_partial()
     ensures message { (bytes : List ℕ) (seen : Seen) (used n : ℕ) → next_of bytes ≡ Whole seen used → n < used → next_of (take n bytes) ≡ Partial }
     ensures shorter { (bytes more : List ℕ) → next_of (bytes ++ more) ≡ Partial → next_of bytes ≡ Partial }
-    ensures short { (bytes : List ℕ) → next_of bytes ≡ Partial → length bytes < 16777216 }
+    ensures short { (bytes : List ℕ) → next_of bytes ≡ Partial → length bytes < MAX_MESSAGE }
 {}
 
 /// What is less than a message is shorter than what is awaited, and stays less than a message until

@@ -1,5 +1,6 @@
 // Whole messages.
 ghost use Rattle.std.specs.Prelude.{◌≡◌, ◌+◌, ◌≤◌, ◌<◌, length, take, drop, IfOk, Ok, List, ℕ, ◌++◌};
+ghost use Rattle.dbus_values.specs.declared.codes.TheConstants.{MAX_MESSAGE};
 ghost use Rattle.dbus_values.specs.Reading.{Gives, spot_at};
 ghost use Rattle.dbus_values.specs.Parts.{spot};
 ghost use Rattle.dbus_values.specs.Basics.{gap};
@@ -82,7 +83,7 @@ struct Halves<'a> {
 
 /// The two halves behind the first 16 bytes.
 fn split(first: Start, bytes: &[u8]) -> Halves
-    requires short { total (start first) ≤ 16777216 }
+    requires short { total (start first) ≤ MAX_MESSAGE }
     requires there { total (start first) ≤ length bytes.now }
     ensures fields { spot result.fields ≡ spot_at 16 (take first.fields (drop 16 bytes.now)) }
     ensures body { spot result.body ≡ spot_at (16 + first.fields) (take (gap 8 first.fields + first.body) (drop first.fields (drop 16 bytes.now))) }
@@ -115,7 +116,7 @@ fn signature_of<'a>(fields: &Fields<'a>) -> &'a [u8]
 /// The fields and the body behind the first 16 bytes.
 #[tactic(auto, unfolding(crate::specs::Messages::message_of))]
 fn message_of<'a>(first: Start, bytes: &'a [u8]) -> Result<(Fields<'a>, (usize, Cursor<'a>)), Fault>
-    requires short { total (start first) ≤ 16777216 }
+    requires short { total (start first) ≤ MAX_MESSAGE }
     requires there { total (start first) ≤ length bytes.now }
     ensures exact { Gives (λ (fields, (parts, begin)). (header fields, (parts, spot begin))) result (message_of (start first) bytes.now) }
     ensures walked { IfOk result (λ (fields, (parts, begin)). body_at first.big (signature_of (header fields)) begin.at begin.rest.now ≡ Ok parts) }

@@ -1,6 +1,7 @@
 // Messages as bytes, little-endian.
 ghost use Rattle.std.specs.Prelude.{◌≡◌, ◌+◌, ◌<◌, ◌≤◌, ◌^◌, ◌++◌, ◌⊎◌, [], ◌∷◌, List, ℕ, length, OnOk, IfOk, false};
 ghost use Rattle.std.specs.Int.{w32};
+ghost use Rattle.dbus_values.specs.declared.codes.TheConstants.{MAX_MESSAGE};
 ghost use Rattle.dbus_values.specs.Trees.{bytes_of, types_of, marshalled, all_marshalled};
 ghost use Rattle.dbus_values.specs.Next.{Whole, next_of};
 ghost use Rattle.dbus_values.specs.Form.{fields_bytes, message_bytes, IsMessage, WireForm, shown_of};
@@ -26,7 +27,7 @@ fn put_text_field(
     text: &Option<Text>,
 ) -> Result<(), AllocError>
     requires letter { (letter ≡ 111) ⊎ (letter ≡ 115) }
-    requires short { length out.old.items + length (fields_bytes false (length out.old.items) (text_field code letter text.now)) ≤ 16777216 }
+    requires short { length out.old.items + length (fields_bytes false (length out.old.items) (text_field code letter text.now)) ≤ MAX_MESSAGE }
     ensures exact { OnOk result (out.new.items ≡ out.old.items ++ fields_bytes false (length out.old.items) (text_field code letter text.now)) }
 {
     match text {
@@ -75,7 +76,7 @@ fn put_signature_field(out: &mut Vec<u8>, signature: &[u8]) -> Result<(), AllocE
 fn put_fields(out: &mut Vec<u8>, message: &WireOut, signature: &[u8]) -> Result<(), AllocError>
     requires signature { signature.now ≡ types_of (list_trees message.now.body.items.items) }
     requires letters { length signature.now < 256 }
-    requires short { length out.old.items + length (fields_bytes false (length out.old.items) (fields_out message.now)) ≤ 16777216 }
+    requires short { length out.old.items + length (fields_bytes false (length out.old.items) (fields_out message.now)) ≤ MAX_MESSAGE }
     ensures exact { OnOk result (out.new.items ≡ out.old.items ++ fields_bytes false (length out.old.items) (fields_out message.now)) }
 {
     put_text_field(out, PATH, b'o', &message.fields.path)?;
@@ -101,7 +102,7 @@ fn put_types(out: &mut Vec<u8>, values: &ValueList) -> Result<(), AllocError>
 #[tactic(auto, using(crate::proofs::Writing::value_rules))]
 fn put_values(alloc: Global, out: &mut Vec<u8>, values: &ValueList) -> Result<(), AllocError>
     requires forms { AllForm values.now.items.items }
-    requires short { length (out.old.items ++ all_marshalled false (length out.old.items) (list_trees values.now.items.items)) ≤ 16777216 }
+    requires short { length (out.old.items ++ all_marshalled false (length out.old.items) (list_trees values.now.items.items)) ≤ MAX_MESSAGE }
     ensures exact { OnOk result (out.new.items ≡ out.old.items ++ all_marshalled false (length out.old.items) (list_trees values.now.items.items)) }
 {
     for item in &values.items {

@@ -1,5 +1,6 @@
 // The first 16 bytes of a message.
 ghost use Rattle.std.specs.Prelude.{◌≡◌, ◌+◌, ◌≤◌, ◌<◌, ◌^◌, length, IfOk};
+ghost use Rattle.dbus_values.specs.declared.codes.TheConstants.{MAX_BODY, MAX_MESSAGE};
 ghost use Rattle.dbus_values.specs.Reading.{Gives};
 ghost use Rattle.dbus_values.specs.Messages.{u32_of, total, order_of, kind_of, flags_of, body_of, serial_of, fields_of, start_of};
 ghost use Rattle.dbus_values.specs.Starts.{start};
@@ -24,7 +25,7 @@ pub struct Start {
 impl Start {
     /// The length of the whole message.
     pub fn total(&self) -> usize
-        requires { total (start self.now) ≤ 16777216 }
+        requires { total (start self.now) ≤ MAX_MESSAGE }
         ensures exact { result ≡ total (start self.now) }
     {
         let fields = self.fields as usize;
@@ -94,7 +95,7 @@ fn flags_of(bytes: &[u8]) -> Result<u8, Stop>
 #[tactic(auto, unfolding(crate::specs::Messages::body_of))]
 fn body_of(big: bool, bytes: &[u8]) -> Result<u32, Stop>
     ensures exact { Gives (λ x. x) result (body_of big bytes.now) }
-    ensures small { IfOk result (λ n. n ≤ 16777200) }
+    ensures small { IfOk result (λ n. n ≤ MAX_BODY) }
 {
     if bytes.len() < 8 {
         return Err(Stop::Partial);
@@ -125,7 +126,7 @@ fn serial_of(big: bool, bytes: &[u8]) -> Result<u32, Stop>
 #[tactic(auto, unfolding(crate::specs::Messages::fields_of))]
 fn fields_of(big: bool, body: u32, bytes: &[u8]) -> Result<u32, Stop>
     ensures exact { Gives (λ x. x) result (fields_of big body bytes.now) }
-    ensures there { IfOk result (λ n. (16 ≤ length bytes.now) × (16 + (n + gap 8 n) + body ≤ 16777216)) }
+    ensures there { IfOk result (λ n. (16 ≤ length bytes.now) × (16 + (n + gap 8 n) + body ≤ MAX_MESSAGE)) }
 {
     if bytes.len() < 16 {
         return Err(Stop::Partial);
@@ -142,7 +143,7 @@ fn fields_of(big: bool, body: u32, bytes: &[u8]) -> Result<u32, Stop>
 #[tactic(auto, unfolding(crate::specs::Messages::start_of))]
 pub fn start_of(bytes: &[u8]) -> Result<Start, Stop>
     ensures exact { Gives start result (start_of bytes.now) }
-    ensures there { IfOk result (λ s. (16 ≤ length bytes.now) × (total (start s) ≤ 16777216)) }
+    ensures there { IfOk result (λ s. (16 ≤ length bytes.now) × (total (start s) ≤ MAX_MESSAGE)) }
 {
     let big = order_of(bytes)?;
     let kind = kind_of(bytes)?;

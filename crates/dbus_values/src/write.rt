@@ -1,6 +1,7 @@
 // Values as bytes, little-endian.
 ghost use Rattle.std.specs.Prelude.{◌≡◌, ◌+◌, ◌<◌, ◌≤◌, ◌^◌, ◌++◌, [], ◌∷◌, length, take, drop, OnOk, false};
 ghost use Rattle.std.specs.Int.{w32, w64};
+ghost use Rattle.dbus_values.specs.declared.codes.TheConstants.{MAX_MESSAGE};
 ghost use Rattle.dbus_values.specs.Basics.{gap};
 ghost use Rattle.dbus_values.specs.Trees.{padding, bytes_of, type_of, marshalled, all_marshalled, text_bytes};
 ghost use Rattle.dbus_values.specs.Written.{tree, list_trees, HasForm};
@@ -151,7 +152,7 @@ fn put_padded_text(out: &mut Vec<u8>, text: &Text) -> Result<(), AllocError>
 #[tactic(auto, using(crate::proofs::Writing::value_rules))]
 pub fn put_value(alloc: Global, out: &mut Vec<u8>, value: &Value) -> Result<(), AllocError>
     requires form { HasForm (tree value.now) }
-    requires short { length out.old.items + length (marshalled false (length out.old.items) (tree value.now)) ≤ 16777216 }
+    requires short { length out.old.items + length (marshalled false (length out.old.items) (tree value.now)) ≤ MAX_MESSAGE }
     ensures exact { OnOk result (out.new.items ≡ out.old.items ++ marshalled false (length out.old.items) (tree value.now)) }
 {
     match value {

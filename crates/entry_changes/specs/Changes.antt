@@ -41,7 +41,7 @@ use Rattle.authority_model.specs.Deciding.{Decision, decided}
 use Rattle.authority_model.specs.Verdicts.{offers}
 use Rattle.authority_model.specs.Grants.{kept, made, made_by}
 use Rattle.authority_model.specs.Trust.{trusted}
-use Rattle.entry_changes.specs.Steps.{◌>>=◌, guard, Apart}
+use Rattle.authority_model.specs.Steps.{◌>>=◌, guard, Apart}
 use Rattle.entry_changes.specs.Finding.{is_sent, has_id, with_cookie}
 
 -- what follows for a subject that is known and that the caller may speak for; for any other there is nothing to it

@@ -14,12 +14,20 @@ pub struct Peer {
 
 impl Peer {
     ghost use Rattle.std.specs.Prelude.{◌≡◌, ◌==◌, ◌||◌, not};
+    ghost use Rattle.entry_changes.specs.Known.{live_announced};
 
     /// Whether it has not departed.
     pub fn is_live(self) -> bool
         ensures live { result ≡ not self.departed }
     {
         !self.departed
+    }
+
+    /// The process that it announced last, unless it has departed.
+    pub fn live_announced(self) -> Option<ProcessId>
+        ensures process { result ≡ live_announced self }
+    {
+        if self.departed { None } else { self.announced }
     }
 
     /// Whether its uid is 0.

@@ -10,7 +10,7 @@ use Rattle.authority_model.specs.declared.pending.TheConstants.{MAX_PENDING}
 use Rattle.authority_model.specs.declared.policy.Action.{Action}
 use Rattle.authority_model.specs.declared.verdict.GrantRow.{GrantRow}
 use Rattle.authority_model.specs.declared.verdict.RuleSource.{RuleSource}
-use Rattle.entry_changes.specs.Steps.{◌>>=◌, guard}
+use Rattle.authority_model.specs.Steps.{◌>>=◌, guard}
 use Rattle.authority_model.specs.Words.{Bytes, least_text}
 use Rattle.authority_model.specs.Agents.{agent_for}
 use Rattle.entry_changes.specs.Changes.{challenge_opened}
@@ -76,43 +76,43 @@ from_facts past k f = do
   from_decision past k f v (decided past (kept past) f k.asking.occasion.moment k.action.now v)
 
 module _ (past : List Item) (k : Check) where
-  of_agent : (f : Facts) (v : Implicit × RuleSource) (agent : Agent) → from_agent past k f v agent ≡ opened_if_free past k f v agent
+  of_agent : (f : Facts) (v : Implicit × RuleSource) (agent : Agent) → from_agent past k f v agent ≡ opened_if_free f v agent past k
   of_agent f v agent = go (nat_le MAX_PENDING (pending_beside past k.asking.to.caller)) (option_map (challenge_opened past k.asking.to.caller (question_of k) (let (value, source) = v in begun_next past k.asking.occasion.salt f value) f v agent) (uid_of past k.asking.to.caller))
     where
       go : (b : Bool) (x : Option Pending) → option_and_then (λ (_ : Unit {0}). x) (guard (not b)) ≡ (if b then None else x)
       go true x = refl
       go false x = refl
 
-  of_value : (f : Facts) (v : Implicit × RuleSource) → from_value past k f v ≡ opened_for past k f v
+  of_value : (f : Facts) (v : Implicit × RuleSource) → from_value past k f v ≡ opened_for f v past k
   of_value f v = go (allows_interaction k.flags)
     where
-      go : (b : Bool) → option_and_then (λ (_ : Unit {0}). option_and_then (from_agent past k f v) (agent_for past f)) (guard b) ≡ option_and_then (opened_if_free past k f v) (if b then agent_for past f else None)
-      go true = then_alike (from_agent past k f v) (opened_if_free past k f v) (of_agent f v) (agent_for past f)
+      go : (b : Bool) → option_and_then (λ (_ : Unit {0}). option_and_then (from_agent past k f v) (agent_for past f)) (guard b) ≡ option_and_then (λ agent. opened_if_free f v agent past k) (if b then agent_for past f else None)
+      go true = then_alike (from_agent past k f v) (λ agent. opened_if_free f v agent past k) (of_agent f v) (agent_for past f)
       go false = refl
 
-  of_decision : (f : Facts) (t : ℕ) (a : Bytes) (v : Implicit × RuleSource) → from_decision past k f v (decided past (kept past) f t a v) ≡ opened_told past k f (decided past (kept past) f t a v)
+  of_decision : (f : Facts) (t : ℕ) (a : Bytes) (v : Implicit × RuleSource) → from_decision past k f v (decided past (kept past) f t a v) ≡ opened_told f (decided past (kept past) f t a v) past k
   of_decision f t a (value, source) = by_test P (f.uid == 0) Decision.Root (if is_yes value then Decision.Yes source else by_grant (find (serves f.key a t) (kept past)) (least_text (implying past (kept past) f t a)) value source) (λ _. refl) (λ _.
       by_test P (is_yes value) (Decision.Yes source) (by_grant (find (serves f.key a t) (kept past)) (least_text (implying past (kept past) f t a)) value source) (λ _. refl) (λ _.
       of_grant (find (serves f.key a t) (kept past)) (least_text (implying past (kept past) f t a))))
     where
       P : Decision → Type 0
-      P d = from_decision past k f (value, source) d ≡ opened_told past k f d
+      P d = from_decision past k f (value, source) d ≡ opened_told f d past k
 
       of_grant : (g : Option GrantRow) (b : Option Bytes) → P (by_grant g b value source)
       of_grant (Some g) b = refl
       of_grant None (Some b) = refl
       of_grant None None = by_test P (is_auth value) (Decision.Challenge value source) (Decision.No source) (λ _. of_value f (value, source)) (λ _. refl)
 
-  of_facts : (f : Facts) → from_facts past k f ≡ opened_known past k f
+  of_facts : (f : Facts) → from_facts past k f ≡ opened_known f past k
   of_facts f = go (trusted past k.asking.to.caller f k.details.now k.action.now)
     where
-      go : (b : Bool) → option_and_then (λ (_ : Unit {0}). option_and_then (λ v. from_decision past k f v (decided past (kept past) f k.asking.occasion.moment k.action.now v)) (implicit_for past f k.action.now)) (guard b) ≡ (if b then option_and_then (λ v. opened_told past k f (decided past (kept past) f k.asking.occasion.moment k.action.now v)) (implicit_for past f k.action.now) else None)
-      go true = then_alike (λ v. from_decision past k f v (decided past (kept past) f k.asking.occasion.moment k.action.now v)) (λ v. opened_told past k f (decided past (kept past) f k.asking.occasion.moment k.action.now v)) (of_decision f k.asking.occasion.moment k.action.now) (implicit_for past f k.action.now)
+      go : (b : Bool) → option_and_then (λ (_ : Unit {0}). option_and_then (λ v. from_decision past k f v (decided past (kept past) f k.asking.occasion.moment k.action.now v)) (implicit_for past f k.action.now)) (guard b) ≡ (if b then option_and_then (λ v. opened_told f (decided past (kept past) f k.asking.occasion.moment k.action.now v) past k) (implicit_for past f k.action.now) else None)
+      go true = then_alike (λ v. from_decision past k f v (decided past (kept past) f k.asking.occasion.moment k.action.now v)) (λ v. opened_told f (decided past (kept past) f k.asking.occasion.moment k.action.now v) past k) (of_decision f k.asking.occasion.moment k.action.now) (implicit_for past f k.action.now)
       go false = refl
 
   opened_alike : (o : Option Action) → option_and_then (λ (_ : Action). option_and_then (from_facts past k) (facts past k.subject.now)) o ≡ option_and_then (λ (_ : Action). opened_of past k) o
   opened_alike None = refl
-  opened_alike (Some a) = then_alike (from_facts past k) (opened_known past k) of_facts (facts past k.subject.now)
+  opened_alike (Some a) = then_alike (from_facts past k) (λ f. opened_known f past k) of_facts (facts past k.subject.now)
 
   choice : (b : Bool) (o : Option Action) → option_and_then (λ (_ : Unit {0}). option_and_then (λ (_ : Action). option_and_then (from_facts past k) (facts past k.subject.now)) o) (guard (not b)) ≡ (if b then None else option_and_then (λ (_ : Action). opened_of past k) o)
   choice true o = refl

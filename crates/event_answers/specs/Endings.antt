@@ -1,11 +1,14 @@
 -- Which pending challenges a departure, an Unregister and a load end, and what each of them tells.
-use Rattle.std.specs.Prelude.{ℕ, Bool, not, ◌==◌, ◌&&◌, List, [], ◌∷◌, if◌then◌else◌}
+use Rattle.std.specs.Prelude.{◌≡◌, ℕ, Bool, not, ◌==◌, ◌&&◌, List, [], ◌∷◌, Option, option_to_list, Result, IfOk, flat_map, if◌then◌else◌}
 use Rattle.entry_changes.specs.declared.change.ChallengeChange.{ChallengeChange}
+use Rattle.authority_model.specs.declared.journal.Item.{Item}
 use Rattle.authority_model.specs.declared.message.Output.{Output}
 use Rattle.authority_model.specs.declared.pending.Pending.{Pending}
 use Rattle.authority_model.specs.Answers.{answer_departed, answer_loaded, reply_agent_gone}
-use Rattle.entry_changes.specs.Changes.{is_between, stays_listed}
+use Rattle.entry_changes.specs.Changes.{close_all, is_between, stays_listed}
 use Rattle.authority_model.specs.Keys.{same_key, key_seen}
+use Rattle.journal_view.specs.Seen.{Seen, IsSeenOf}
+use Rattle.event_answers.specs.declared.ending.Ended.{Ended}
 use Rattle.event_answers.specs.declared.ending.Ending.{Ending}
 
 -- whether a challenge ends
@@ -28,3 +31,19 @@ place_if e ch = if is_ended e ch then ch.entry ∷ [] else []
 abbrev pub closing : List ℕ → ChallengeChange
 closing [] = ChallengeChange.Keep
 closing (e ∷ es) = ChallengeChange.Close (e ∷ es)
+
+-- what is told of a challenge, if there is one
+abbrev pub told_among : Ending → Option Pending → List Output
+told_among e ch = flat_map (told_of e) (option_to_list ch)
+
+-- the place of its entry, if there is one and it ends
+abbrev pub places_among : Ending → Option Pending → List ℕ
+places_among e ch = flat_map (place_if e) (option_to_list ch)
+
+-- the end of challenges tells what each history says that a view shows
+abbrev pub EndTells : {E : Type 0} → Seen → Result Ended E → (List Item → List Output) → Type 0
+EndTells s end outputs = (past : List Item) → IsSeenOf past s → IfOk end (λ e. e.outputs ≡ outputs past)
+
+-- those end that each history says that a view shows
+abbrev pub EndCloses : {E : Type 0} → Seen → Result Ended E → (List Item → List Pending) → Type 0
+EndCloses s end closed = (past : List Item) → IsSeenOf past s → IfOk end (λ e. closing e.places ≡ close_all (closed past))

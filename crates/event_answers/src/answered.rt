@@ -1,8 +1,8 @@
 // What an event is answered, and what it changes.
-ghost use Rattle.std.specs.Prelude.{◌≡◌, [], IfOk};
+ghost use Rattle.std.specs.Prelude.{◌≡◌, ◌∷◌, [], IfOk};
 ghost use Rattle.event_answers.specs.Asked.{of_agents, of_challenges, of_grants, unchanged};
 
-use authority_model::OutputList;
+use authority_model::{Output, OutputList};
 use entry_changes::{AgentChange, ChallengeChange, EntryChange, GrantChange};
 use pk_types::{List, NoMemory};
 use std::alloc::Global;
@@ -22,6 +22,15 @@ pub fn no_outputs(alloc: Global) -> Result<OutputList, NoMemory>
     ensures empty { IfOk result (λ outputs. outputs ≡ []) }
 {
     Ok(List::from_vec(Vec::with_capacity(alloc, 1)?))
+}
+
+/// The list of one output.
+pub fn one_output(alloc: Global, output: Output) -> Result<OutputList, NoMemory>
+    ensures one { IfOk result (λ outputs. outputs ≡ output ∷ []) }
+{
+    let mut outputs = no_outputs(alloc)?;
+    outputs.try_push(output)?;
+    Ok(outputs)
 }
 
 /// No output, and no change.

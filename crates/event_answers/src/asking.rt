@@ -1,13 +1,12 @@
 // Who asks, and what it is answered.
-ghost use Rattle.std.specs.Prelude.{◌≡◌, ◌++◌, List, IfOk, OnOk};
-ghost use Rattle.authority_model.specs.declared.journal.Item.{Item};
+ghost use Rattle.std.specs.Prelude.{◌≡◌, ◌++◌, IfOk, OnOk};
 ghost use Rattle.authority_model.specs.Answers.{refuse as refusal_of};
 ghost use Rattle.authority_model.specs.Peers.{is_root, may_for};
-ghost use Rattle.event_answers.specs.Asked.{IsLivePeer, reply_of, unchanged};
+ghost use Rattle.event_answers.specs.Asked.{IsOfCaller, reply_of, unchanged};
 
 use crate::answered::{Answered, no_outputs, nothing_changed};
 use authority_model::{Answer, ErrorCause, Message, Output, OutputList};
-use entry_changes::{EntryChange, Peer};
+use entry_changes::Peer;
 use pk_types::NoMemory;
 use std::alloc::Global;
 
@@ -55,22 +54,28 @@ impl ReplyTo {
             },
         })
     }
+
+    /// The reply to a call as its only output: none where it is quiet or has the serial 0.
+    pub fn reply(self, alloc: Global, answer: Answer) -> Result<OutputList, NoMemory>
+        ensures replied { IfOk result (λ outputs. outputs ≡ reply_of self answer) }
+    {
+        let mut outputs = no_outputs(alloc)?;
+        self.send(&mut outputs, answer)?;
+        Ok(outputs)
+    }
 }
 
 impl Asking {
-    /// Answers the call, which changes this.
-    pub fn answer(
-        self,
-        alloc: Global,
-        answer: Answer,
-        change: EntryChange,
-    ) -> Result<Answered, NoMemory>
+    /// Answers the call. Nothing is changed.
+    pub fn answer(self, alloc: Global, answer: Answer) -> Result<Answered, NoMemory>
         ensures outputs { IfOk result (λ a. a.outputs ≡ reply_of self.to answer) }
-        ensures change { IfOk result (λ a. a.change ≡ change) }
+        ensures change { IfOk result (λ a. a.change ≡ unchanged) }
     {
-        let mut outputs = no_outputs(alloc)?;
-        self.to.send(&mut outputs, answer)?;
-        Ok(Answered { outputs, change })
+        let outputs = self.to.reply(alloc, answer)?;
+        Ok(Answered {
+            outputs,
+            change: nothing_changed(),
+        })
     }
 
     /// Refuses the call for this cause. Nothing is changed.
@@ -78,19 +83,19 @@ impl Asking {
         ensures outputs { IfOk result (λ a. a.outputs ≡ refusal_of (reply_of self.to) cause) }
         ensures change { IfOk result (λ a. a.change ≡ unchanged) }
     {
-        self.answer(alloc, Answer::Refused(cause), nothing_changed())
+        self.answer(alloc, Answer::Refused(cause))
     }
 
     /// Whether the caller's uid is 0.
     pub fn is_root(self) -> bool
-        ensures root { (past : List Item) → IsLivePeer past self.to.caller self.peer → result ≡ is_root past self.to.caller }
+        ensures root { IsOfCaller self result (λ past. is_root past self.to.caller) }
     {
         self.peer.is_root()
     }
 
     /// Whether the caller may speak for a user: its uid is this one, or 0.
     pub fn may_for(self, uid: u32) -> bool
-        ensures may { (past : List Item) → IsLivePeer past self.to.caller self.peer → result ≡ may_for past self.to.caller uid }
+        ensures may { IsOfCaller self result (λ past. may_for past self.to.caller uid) }
     {
         self.peer.may_for(uid)
     }

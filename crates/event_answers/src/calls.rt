@@ -1,8 +1,6 @@
 // The answer to each call of a live connection.
-ghost use Rattle.std.specs.Prelude.{◌≡◌, List, IfOk};
-ghost use Rattle.authority_model.specs.declared.journal.Item.{Item};
 ghost use Rattle.authority_model.specs.Small.{IsShort};
-ghost use Rattle.event_answers.specs.Asked.{IsAsked, call_change, call_outputs};
+ghost use Rattle.event_answers.specs.Asked.{AnswersCall, ChangesByCall};
 
 use crate::answered::Answered;
 use crate::asking::Asking;
@@ -25,8 +23,8 @@ pub fn answer_call<V: JournalView>(
     call: &Call,
 ) -> Result<Answered, NoMemory>
     requires rules { IsShort (V.seen view.now).loaded.policy.entries }
-    ensures outputs { (past : List Item) → IsAsked past (V.seen view.now) asking → IfOk result (λ a. a.outputs ≡ call_outputs past asking call.now) }
-    ensures change { (past : List Item) → IsAsked past (V.seen view.now) asking → IfOk result (λ a. a.change ≡ call_change past asking call.now) }
+    ensures outputs { AnswersCall (V.seen view.now) asking call.now result }
+    ensures change { ChangesByCall (V.seen view.now) asking call.now result }
 {
     match call {
         Call::Announce { pid, start } => announce(alloc, view, asking, *pid, *start),

@@ -1,13 +1,12 @@
 // Pending challenges that a departure, an Unregister or a load ends.
-ghost use Rattle.std.specs.Prelude.{◌≡◌, ◌++◌, ◌==◌, ◌&&◌, [], List, OnOk, IfOk, flat_map, filter, not, if◌then◌else◌, option_to_list};
+ghost use Rattle.std.specs.Prelude.{◌≡◌, ◌++◌, OnOk, IfOk, flat_map, filter, not};
 ghost use Rattle.std.specs.Option.{option_copied};
-ghost use Rattle.authority_model.specs.declared.journal.Item.{Item};
 ghost use Rattle.authority_model.specs.Answers.{answer_departed, answer_loaded, reply_agent_gone as agent_gone_of};
 ghost use Rattle.authority_model.specs.Challenges.{pending, pending_at};
 ghost use Rattle.entry_changes.specs.Changes.{close_all, is_between, stays_listed};
-ghost use Rattle.authority_model.specs.Keys.{key_seen, same_key};
-ghost use Rattle.journal_view.specs.Seen.{IsSeenOf};
-ghost use Rattle.event_answers.specs.Endings.{closing, is_ended, place_if, told_of};
+ghost use Rattle.authority_model.specs.Keys.{key_seen};
+ghost use Rattle.event_answers.specs.declared.ending.Ending.{Ending as TheEnding};
+ghost use Rattle.event_answers.specs.Endings.{EndCloses, EndTells, closing, is_ended, place_if, places_among, told_among, told_of};
 
 use crate::answered::no_outputs;
 use crate::replies::{cancel_begin, reply_agent_gone, reply_to};
@@ -29,20 +28,12 @@ pub enum Ending<'a> {
     Loaded { world: &'a World },
 }
 
-/// What the end of challenges tells and changes.
+/// What the end of challenges tells, and which challenges end.
 #[derive(Drop)]
 pub struct Ended {
     pub outputs: OutputList,
-    pub change: ChallengeChange,
-}
-
-/// A walk over the pending challenges.
-#[derive(Drop)]
-struct Walk {
-    /// What was told so far.
-    outputs: OutputList,
     /// The entries that opened the challenges that end, in the order of opening.
-    places: PlaceList,
+    pub places: PlaceList,
 }
 
 /// Answers a check whose agent is this connection's registration of a key.
@@ -53,7 +44,7 @@ fn tell_unregistered(
     key: KeyRef,
     challenge: &Pending,
 ) -> Result<(), NoMemory>
-    ensures told { OnOk result (outputs.new ≡ outputs.old ++ (if (challenge.now.agent == caller) && same_key challenge.now.agent_key (key_seen key.entry) then agent_gone_of challenge.now else [])) }
+    ensures told { OnOk result (outputs.new ≡ outputs.old ++ told_of (TheEnding.Unregistered caller key.entry) challenge.now) }
 {
     if challenge.agent == caller && challenge.agent_key.is_same(key) {
         reply_agent_gone(alloc, outputs, challenge)
@@ -152,7 +143,7 @@ impl Ending<'_> {
 }
 
 /// The challenges that these entries opened are closed.
-fn close_places(places: PlaceList) -> ChallengeChange
+pub fn close_places(places: PlaceList) -> ChallengeChange
     ensures change { result ≡ closing places }
 {
     if places.is_empty() {
@@ -166,12 +157,12 @@ fn close_places(places: PlaceList) -> ChallengeChange
 #[tactic(auto, using(crate::proofs::Silences::silent))]
 fn end(
     alloc: Global,
-    walk: &mut Walk,
+    ended: &mut Ended,
     ending: Ending,
     challenge: Option<&Pending>,
 ) -> Result<(), NoMemory>
-    ensures told { OnOk result (walk.new.outputs ≡ walk.old.outputs ++ flat_map (told_of ending.entry) (option_to_list (option_copied challenge.entry))) }
-    ensures closed { OnOk result (walk.new.places ≡ walk.old.places ++ flat_map (place_if ending.entry) (option_to_list (option_copied challenge.entry))) }
+    ensures told { OnOk result (ended.new.outputs ≡ ended.old.outputs ++ told_among ending.entry (option_copied challenge.entry)) }
+    ensures closed { OnOk result (ended.new.places ≡ ended.old.places ++ places_among ending.entry (option_copied challenge.entry)) }
 {
     let Some(challenge) = challenge else {
         return Ok(());
@@ -179,67 +170,66 @@ fn end(
     if !ending.ends(challenge) {
         return Ok(());
     }
-    ending.tell(alloc, &mut walk.outputs, challenge)?;
-    walk.places.try_push(challenge.entry)
+    ending.tell(alloc, &mut ended.outputs, challenge)?;
+    ended.places.try_push(challenge.entry)
 }
 
 /// Goes over all pending challenges.
-fn walk_all<V: JournalView>(alloc: Global, view: &V, ending: Ending) -> Result<Walk, NoMemory>
-    ensures outputs { IfOk result (λ w. w.outputs ≡ flat_map (told_of ending.entry) (V.seen view.now).challenges) }
-    ensures places { IfOk result (λ w. w.places ≡ flat_map (place_if ending.entry) (V.seen view.now).challenges) }
+fn walk_all<V: JournalView>(alloc: Global, view: &V, ending: Ending) -> Result<Ended, NoMemory>
+    ensures outputs { IfOk result (λ e. e.outputs ≡ flat_map (told_of ending.entry) (V.seen view.now).challenges) }
+    ensures places { IfOk result (λ e. e.places ≡ flat_map (place_if ending.entry) (V.seen view.now).challenges) }
 {
-    let mut walk = Walk {
+    let mut ended = Ended {
         outputs: no_outputs(alloc)?,
         places: List::new(alloc),
     };
     for i in 0..view.pending_len() {
-        end(alloc, &mut walk, ending, view.nth(i))?;
+        end(alloc, &mut ended, ending, view.nth(i))?;
     }
-    Ok(walk)
+    Ok(ended)
 }
 
-/// What the end of the pending challenges tells and changes, in the order of opening.
+/// What the end of the pending challenges tells, and which they are, in the order of opening.
 #[tactic(auto, using(crate::proofs::Silences::closed_all))]
 fn end_all<V: JournalView>(alloc: Global, view: &V, ending: Ending) -> Result<Ended, NoMemory>
     ensures outputs { IfOk result (λ e. e.outputs ≡ flat_map (told_of ending.entry) (V.seen view.now).challenges) }
-    ensures change { IfOk result (λ e. e.change ≡ close_all (filter (is_ended ending.entry) (V.seen view.now).challenges)) }
+    ensures closed { IfOk result (λ e. closing e.places ≡ close_all (filter (is_ended ending.entry) (V.seen view.now).challenges)) }
 {
-    let Walk { outputs, places } = walk_all(alloc, view, ending)?;
-    let change = close_places(places);
-    Ok(Ended { outputs, change })
+    let ended = walk_all(alloc, view, ending)?;
+    Ok(ended)
 }
 
-/// What the end of the pending challenges at the registration of a key by this connection tells and
-/// changes.
+/// What the end of the pending challenges at the registration of a key by this connection tells, and
+/// which they are.
 pub fn end_at<V: JournalView>(
     alloc: Global,
     view: &V,
     caller: u32,
     key: KeyRef,
 ) -> Result<Ended, NoMemory>
-    ensures outputs { (past : List Item) → IsSeenOf past (V.seen view.now) → IfOk result (λ e. e.outputs ≡ flat_map agent_gone_of (pending_at past caller (key_seen key.entry))) }
-    ensures change { (past : List Item) → IsSeenOf past (V.seen view.now) → IfOk result (λ e. e.change ≡ close_all (pending_at past caller (key_seen key.entry))) }
+    ensures outputs { EndTells (V.seen view.now) result (λ past. flat_map agent_gone_of (pending_at past caller (key_seen key.entry))) }
+    ensures closed { EndCloses (V.seen view.now) result (λ past. pending_at past caller (key_seen key.entry)) }
 {
     end_all(alloc, view, Ending::Unregistered { caller, key })
 }
 
-/// What the end of the pending challenges whose subject or agent this world does not list tells and
-/// changes.
+/// What the end of the pending challenges whose subject or agent this world does not list tells, and
+/// which they are.
 pub fn end_unlisted<V: JournalView>(
     alloc: Global,
     view: &V,
     world: &World,
 ) -> Result<Ended, NoMemory>
-    ensures outputs { (past : List Item) → IsSeenOf past (V.seen view.now) → IfOk result (λ e. e.outputs ≡ flat_map (answer_loaded world.now) (pending past)) }
-    ensures change { (past : List Item) → IsSeenOf past (V.seen view.now) → IfOk result (λ e. e.change ≡ close_all (filter (λ ch. not (stays_listed world.now ch)) (pending past))) }
+    ensures outputs { EndTells (V.seen view.now) result (λ past. flat_map (answer_loaded world.now) (pending past)) }
+    ensures closed { EndCloses (V.seen view.now) result (λ past. filter (λ ch. not (stays_listed world.now ch)) (pending past)) }
 {
     end_all(alloc, view, Ending::Loaded { world })
 }
 
-/// What the end of the pending challenges of a connection that departs tells and changes.
+/// What the end of the pending challenges of a connection that departs tells, and which they are.
 pub fn end_departed<V: JournalView>(alloc: Global, view: &V, caller: u32) -> Result<Ended, NoMemory>
-    ensures outputs { (past : List Item) → IsSeenOf past (V.seen view.now) → IfOk result (λ e. e.outputs ≡ flat_map (answer_departed caller) (pending past)) }
-    ensures change { (past : List Item) → IsSeenOf past (V.seen view.now) → IfOk result (λ e. e.change ≡ close_all (filter (is_between caller) (pending past))) }
+    ensures outputs { EndTells (V.seen view.now) result (λ past. flat_map (answer_departed caller) (pending past)) }
+    ensures closed { EndCloses (V.seen view.now) result (λ past. filter (is_between caller) (pending past)) }
 {
     end_all(alloc, view, Ending::Departed { caller })
 }

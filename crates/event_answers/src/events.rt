@@ -9,12 +9,13 @@ ghost use Rattle.authority_model.specs.Answers.{answers, answer_departed};
 ghost use Rattle.entry_changes.specs.Changes.{close_all, entry_change, is_between};
 ghost use Rattle.authority_model.specs.Challenges.{pending};
 ghost use Rattle.journal_view.specs.Seen.{IsSeenOf};
-ghost use Rattle.event_answers.specs.Asked.{of_challenges, unchanged};
+ghost use Rattle.event_answers.specs.Asked.{AnswersEvent, Changes, ChangesByEvent, Tells, of_challenges, unchanged};
+ghost use Rattle.event_answers.specs.declared.asking.Occasion.{Occasion as TheOccasion};
 
-use crate::answered::{Answered, challenges_changed, no_outputs, nothing, nothing_changed};
+use crate::answered::{Answered, challenges_changed, nothing, nothing_changed, one_output};
 use crate::asking::{Asking, Occasion, ReplyTo};
 use crate::calls::answer_call;
-use crate::ending::{Ended, end_departed, end_unlisted};
+use crate::ending::{Ended, close_places, end_departed, end_unlisted};
 use crate::presence::{is_live, live_peer};
 use crate::replies::tell_changed;
 use crate::returning::{answer_error, answer_return};
@@ -25,20 +26,20 @@ use std::alloc::Global;
 
 /// Answers the departure of a connection that is live.
 fn depart_live<V: JournalView>(alloc: Global, view: &V, caller: u32) -> Result<Answered, NoMemory>
-    ensures outputs { (past : List Item) → IsSeenOf past (V.seen view.now) → IfOk result (λ a. a.outputs ≡ flat_map (answer_departed caller) (pending past)) }
-    ensures change { (past : List Item) → IsSeenOf past (V.seen view.now) → IfOk result (λ a. a.change ≡ of_challenges (close_all (filter (is_between caller) (pending past)))) }
+    ensures outputs { Tells (V.seen view.now) result (λ past. flat_map (answer_departed caller) (pending past)) }
+    ensures change { Changes (V.seen view.now) result (λ past. of_challenges (close_all (filter (is_between caller) (pending past)))) }
 {
-    let Ended { outputs, change } = end_departed(alloc, view, caller)?;
+    let Ended { outputs, places } = end_departed(alloc, view, caller)?;
     Ok(Answered {
         outputs,
-        change: challenges_changed(change),
+        change: challenges_changed(close_places(places)),
     })
 }
 
 /// Answers the departure of a connection.
 pub fn depart<V: JournalView>(alloc: Global, view: &V, caller: u32) -> Result<Answered, NoMemory>
-    ensures outputs { (past : List Item) → IsSeenOf past (V.seen view.now) → (t salt : ℕ) → IfOk result (λ a. a.outputs ≡ answers past caller t salt Depart None) }
-    ensures change { (past : List Item) → IsSeenOf past (V.seen view.now) → (t salt : ℕ) → IfOk result (λ a. a.change ≡ entry_change past caller t salt Depart None) }
+    ensures outputs { (at : TheOccasion) → AnswersEvent (V.seen view.now) caller at Depart result }
+    ensures change { (at : TheOccasion) → ChangesByEvent (V.seen view.now) caller at Depart result }
 {
     if !is_live(view, caller) {
         return Ok(nothing(alloc));
@@ -53,18 +54,20 @@ pub fn answer_load<V: JournalView>(
     view: &V,
     world: &World,
 ) -> Result<Answered, NoMemory>
-    ensures outputs { (past : List Item) (l : TheLoaded) → IsSeenOf past (V.seen view.now) → world.now ≡ l.world → (c t salt n : ℕ) → IfOk result (λ a. a.outputs ≡ answers past c t salt (Load n) (Some l)) }
-    ensures change { (past : List Item) (l : TheLoaded) → IsSeenOf past (V.seen view.now) → world.now ≡ l.world → (c t salt n : ℕ) → IfOk result (λ a. a.change ≡ entry_change past c t salt (Load n) (Some l)) }
+    ensures outputs { (past : List Item) (l : TheLoaded) → IsSeenOf past (V.seen view.now) → world.now ≡ l.world → (c t salt n : ℕ)
+        → IfOk result (λ a. a.outputs ≡ answers past c t salt (Load n) (Some l)) }
+    ensures change { (past : List Item) (l : TheLoaded) → IsSeenOf past (V.seen view.now) → world.now ≡ l.world → (c t salt n : ℕ)
+        → IfOk result (λ a. a.change ≡ entry_change past c t salt (Load n) (Some l)) }
 {
     let ended = end_unlisted(alloc, view, world)?;
     let Ended {
         mut outputs,
-        change,
+        places,
     } = ended;
     tell_changed(&mut outputs, view)?;
     Ok(Answered {
         outputs,
-        change: challenges_changed(change),
+        change: challenges_changed(close_places(places)),
     })
 }
 
@@ -77,8 +80,8 @@ fn call<V: JournalView>(
     asked: &Call,
 ) -> Result<Answered, NoMemory>
     requires rules { IsShort (V.seen view.now).loaded.policy.entries }
-    ensures outputs { (past : List Item) → IsSeenOf past (V.seen view.now) → IfOk result (λ a. a.outputs ≡ answers past to.caller occasion.moment occasion.salt (Called to.serial to.quiet asked.now) None) }
-    ensures change { (past : List Item) → IsSeenOf past (V.seen view.now) → IfOk result (λ a. a.change ≡ entry_change past to.caller occasion.moment occasion.salt (Called to.serial to.quiet asked.now) None) }
+    ensures outputs { AnswersEvent (V.seen view.now) to.caller occasion (Called to.serial to.quiet asked.now) result }
+    ensures change { ChangesByEvent (V.seen view.now) to.caller occasion (Called to.serial to.quiet asked.now) result }
 {
     match live_peer(view, to.caller) {
         Some(peer) => {
@@ -94,11 +97,11 @@ fn stop(alloc: Global) -> Result<Answered, NoMemory>
     ensures outputs { IfOk result (λ a. a.outputs ≡ record { to = 0; message = TheMessage.StopWanted } ∷ []) }
     ensures change { IfOk result (λ a. a.change ≡ unchanged) }
 {
-    let mut outputs = no_outputs(alloc)?;
-    outputs.try_push(Output {
+    let wanted = Output {
         to: 0,
         message: Message::StopWanted,
-    })?;
+    };
+    let outputs = one_output(alloc, wanted)?;
     Ok(Answered {
         outputs,
         change: nothing_changed(),
@@ -119,8 +122,10 @@ pub fn answer<V: JournalView>(
     event: &Event,
 ) -> Result<Answered, NoMemory>
     requires rules { IsShort (V.seen view.now).loaded.policy.entries }
-    ensures outputs { (past : List Item) → IsSeenOf past (V.seen view.now) → IfOk result (λ a. a.outputs ≡ answers past caller occasion.moment occasion.salt event.now None) }
-    ensures change { (past : List Item) → IsSeenOf past (V.seen view.now) → IfOk result (λ a. a.change ≡ entry_change past caller occasion.moment occasion.salt event.now None) }
+    ensures outputs { (past : List Item) → IsSeenOf past (V.seen view.now)
+        → IfOk result (λ a. a.outputs ≡ answers past caller occasion.moment occasion.salt event.now None) }
+    ensures change { (past : List Item) → IsSeenOf past (V.seen view.now)
+        → IfOk result (λ a. a.change ≡ entry_change past caller occasion.moment occasion.salt event.now None) }
 {
     match event {
         Event::Call {

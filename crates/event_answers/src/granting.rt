@@ -1,26 +1,23 @@
 // Temporary authorizations that are listed and revoked.
-ghost use Rattle.std.specs.Prelude.{◌≡◌, ◌++◌, [], false, List, OnOk, IfOk, flat_map, filter, if◌then◌else◌, option_to_list};
+ghost use Rattle.std.specs.Prelude.{◌≡◌, ◌++◌, false, List, OnOk, IfOk, flat_map, filter};
 ghost use Rattle.std.specs.Option.{option_copied, option_map_or};
 ghost use Rattle.authority_model.specs.declared.event.Call.{Call as TheCall};
 ghost use Rattle.authority_model.specs.declared.journal.Item.{Item};
 ghost use Rattle.entry_changes.specs.declared.change.GrantChange.{GrantChange as TheChange};
-ghost use Rattle.authority_model.specs.declared.message.Answer.{Answer as TheAnswer};
-ghost use Rattle.authority_model.specs.declared.message.ErrorCause.{ErrorCause as TheCause};
-ghost use Rattle.authority_model.specs.Answers.{answer_revoke, changed as changed_of, live_grants as live_grants_of, refuse as refusal_of};
 ghost use Rattle.entry_changes.specs.Changes.{revoking as revoking_of};
-ghost use Rattle.authority_model.specs.Deciding.{is_live_at};
 ghost use Rattle.authority_model.specs.Facts.{facts_seen};
-ghost use Rattle.authority_model.specs.Grants.{kept, made};
+ghost use Rattle.authority_model.specs.Grants.{made};
 ghost use Rattle.authority_model.specs.Keys.{key_seen};
 ghost use Rattle.authority_model.specs.Lists.{any_of};
-ghost use Rattle.event_answers.specs.Asked.{IsAsked, IsLivePeer, call_change, call_outputs, is_live_for as live_for, live_row, of_grants, reply_of, unchanged};
+ghost use Rattle.event_answers.specs.Asked.{AnswersCall, ChangesAsked, ChangesByCall, GivesAsked, IsAsked, IsOfCaller, TellsAsker, call_outputs, is_live_for as live_for, live_row, of_grants, unchanged};
+ghost use Rattle.event_answers.specs.Told.{done_told, grants_told, live_among, revoke_all_told, revoke_one_told};
 
-use crate::answered::{Answered, grants_changed, no_outputs, nothing_changed};
+use crate::answered::{Answered, grants_changed};
 use crate::asking::Asking;
 use crate::permitting::permitted;
 use crate::replies::tell_changed;
-use authority_model::{Answer, ErrorCause, Facts, GrantRow, GrantRowList, KeyRef};
-use entry_changes::{EntryChange, GrantChange};
+use authority_model::{Answer, ErrorCause, Facts, GrantRow, GrantRowList, KeyRef, OutputList};
+use entry_changes::GrantChange;
 use journal_view::JournalView;
 use pk_types::{List, NoMemory, Subject, Text, TryCopy};
 use std::alloc::Global;
@@ -39,7 +36,7 @@ fn put_live(
     key: KeyRef,
     moment: u64,
 ) -> Result<(), NoMemory>
-    ensures put { OnOk result (rows.new ≡ rows.old ++ flat_map (live_row (key_seen key.entry) moment) (option_to_list (option_copied grant.entry))) }
+    ensures put { OnOk result (rows.new ≡ rows.old ++ live_among (key_seen key.entry) moment (option_copied grant.entry)) }
 {
     let Some(grant) = grant else {
         return Ok(());
@@ -108,11 +105,11 @@ fn enumerate_for<V: JournalView>(
     asking: Asking,
     facts: Facts,
 ) -> Result<Answered, NoMemory>
-    ensures outputs { (past : List Item) → IsAsked past (V.seen view.now) asking → IfOk result (λ a. a.outputs ≡ reply_of asking.to (TheAnswer.Grants (live_grants_of past asking.occasion.moment (facts_seen facts.entry).key))) }
+    ensures outputs { TellsAsker (V.seen view.now) asking result (grants_told asking (facts_seen facts.entry)) }
     ensures change { IfOk result (λ a. a.change ≡ unchanged) }
 {
     let rows = live_grants(alloc, view, facts.key, asking.occasion.moment)?;
-    asking.answer(alloc, Answer::Grants(rows), nothing_changed())
+    asking.answer(alloc, Answer::Grants(rows))
 }
 
 /// Answers EnumerateGrants (EnumerateTemporaryAuthorizations in the reference manual).
@@ -122,8 +119,8 @@ pub fn enumerate_grants<V: JournalView>(
     asking: Asking,
     subject: &Subject,
 ) -> Result<Answered, NoMemory>
-    ensures outputs { (past : List Item) → IsAsked past (V.seen view.now) asking → IfOk result (λ a. a.outputs ≡ call_outputs past asking (TheCall.EnumerateGrants subject.now)) }
-    ensures change { (past : List Item) → IfOk result (λ a. a.change ≡ call_change past asking (TheCall.EnumerateGrants subject.now)) }
+    ensures outputs { AnswersCall (V.seen view.now) asking (TheCall.EnumerateGrants subject.now) result }
+    ensures change { IfOk result (λ a. a.change ≡ unchanged) }
 {
     match permitted(view, asking, subject) {
         Ok(facts) => enumerate_for(alloc, view, asking, facts),
@@ -131,20 +128,21 @@ pub fn enumerate_grants<V: JournalView>(
     }
 }
 
-/// Says that the call was done, and tells each live connection that something changed.
-fn done_and_changed<V: JournalView>(
+/// Says that the call was done, and tells each live connection if something changed.
+fn done<V: JournalView>(
     alloc: Global,
     view: &V,
     asking: Asking,
-    change: EntryChange,
-) -> Result<Answered, NoMemory>
-    ensures outputs { (past : List Item) → IsAsked past (V.seen view.now) asking → IfOk result (λ a. a.outputs ≡ reply_of asking.to TheAnswer.Done ++ changed_of past) }
-    ensures change { IfOk result (λ a. a.change ≡ change) }
+    has_changed: bool,
+) -> Result<OutputList, NoMemory>
+    ensures done { GivesAsked (V.seen view.now) asking result (done_told asking has_changed) }
 {
-    let mut outputs = no_outputs(alloc)?;
-    asking.to.send(&mut outputs, Answer::Done)?;
+    let mut outputs = asking.to.reply(alloc, Answer::Done)?;
+    if !has_changed {
+        return Ok(outputs);
+    }
     tell_changed(&mut outputs, view)?;
-    Ok(Answered { outputs, change })
+    Ok(outputs)
 }
 
 /// Answers RevokeAll for a subject of these facts.
@@ -154,16 +152,16 @@ fn revoke_all_for<V: JournalView>(
     asking: Asking,
     facts: Facts,
 ) -> Result<Answered, NoMemory>
-    ensures outputs { (past : List Item) → IsAsked past (V.seen view.now) asking
-        → IfOk result (λ a. a.outputs ≡ reply_of asking.to TheAnswer.Done ++ (if any_of (live_for (facts_seen facts.entry).key asking.occasion.moment) (kept past) then changed_of past else [])) }
+    ensures outputs { TellsAsker (V.seen view.now) asking result (revoke_all_told asking (facts_seen facts.entry)) }
     ensures change { IfOk result (λ a. a.change ≡ of_grants (TheChange.EndKey (facts_seen facts.entry).key)) }
 {
-    let change = grants_changed(GrantChange::EndKey(facts.key.try_own()?));
-    if has_live(view, facts.key, asking.occasion.moment) {
-        done_and_changed(alloc, view, asking, change)
-    } else {
-        asking.answer(alloc, Answer::Done, change)
-    }
+    let key = facts.key.try_own()?;
+    let has_changed = has_live(view, facts.key, asking.occasion.moment);
+    let outputs = done(alloc, view, asking, has_changed)?;
+    Ok(Answered {
+        outputs,
+        change: grants_changed(GrantChange::EndKey(key)),
+    })
 }
 
 /// Answers RevokeAll (RevokeTemporaryAuthorizations in the reference manual).
@@ -173,8 +171,8 @@ pub fn revoke_all<V: JournalView>(
     asking: Asking,
     subject: &Subject,
 ) -> Result<Answered, NoMemory>
-    ensures outputs { (past : List Item) → IsAsked past (V.seen view.now) asking → IfOk result (λ a. a.outputs ≡ call_outputs past asking (TheCall.RevokeAll subject.now)) }
-    ensures change { (past : List Item) → IsAsked past (V.seen view.now) asking → IfOk result (λ a. a.change ≡ call_change past asking (TheCall.RevokeAll subject.now)) }
+    ensures outputs { AnswersCall (V.seen view.now) asking (TheCall.RevokeAll subject.now) result }
+    ensures change { ChangesByCall (V.seen view.now) asking (TheCall.RevokeAll subject.now) result }
 {
     match permitted(view, asking, subject) {
         Ok(facts) => revoke_all_for(alloc, view, asking, facts),
@@ -185,7 +183,7 @@ pub fn revoke_all<V: JournalView>(
 /// What a RevokeOne of a temporary authorization changes: it is revoked, expired or not, where the
 /// caller may speak for its user.
 fn revoking(asking: Asking, grant: &GrantRow) -> GrantChange
-    ensures change { (past : List Item) → IsLivePeer past asking.to.caller asking.peer → result ≡ revoking_of past asking.to.caller grant.now }
+    ensures change { IsOfCaller asking result (λ past. revoking_of past asking.to.caller grant.now) }
 {
     if asking.may_for(grant.key.uid()) {
         GrantChange::EndId(grant.id)
@@ -194,25 +192,44 @@ fn revoking(asking: Asking, grant: &GrantRow) -> GrantChange
     }
 }
 
-/// Revokes a temporary authorization that nothing ended. One that has expired is not there for the
-/// caller.
+/// Answers a RevokeOne of a temporary authorization that nothing ended. One that has expired is not
+/// there for the caller.
+fn revoke_outputs<V: JournalView>(
+    alloc: Global,
+    view: &V,
+    asking: Asking,
+    grant: &GrantRow,
+) -> Result<OutputList, NoMemory>
+    ensures outputs { GivesAsked (V.seen view.now) asking result (revoke_one_told asking grant.now) }
+{
+    if !grant.is_live_at(asking.occasion.moment) {
+        return asking
+            .to
+            .reply(alloc, Answer::Refused(ErrorCause::NoSuchGrant));
+    }
+    if !asking.may_for(grant.key.uid()) {
+        return asking
+            .to
+            .reply(alloc, Answer::Refused(ErrorCause::NotYours));
+    }
+    done(alloc, view, asking, true)
+}
+
+/// Revokes a temporary authorization that nothing ended, expired or not.
 fn revoke<V: JournalView>(
     alloc: Global,
     view: &V,
     asking: Asking,
     grant: &GrantRow,
 ) -> Result<Answered, NoMemory>
-    ensures outputs { (past : List Item) → IsAsked past (V.seen view.now) asking → IfOk result (λ a. a.outputs ≡ (if is_live_at asking.occasion.moment grant.now then answer_revoke past asking.to.caller (reply_of asking.to) grant.now else refusal_of (reply_of asking.to) TheCause.NoSuchGrant)) }
-    ensures change { (past : List Item) → IsAsked past (V.seen view.now) asking → IfOk result (λ a. a.change ≡ of_grants (revoking_of past asking.to.caller grant.now)) }
+    ensures outputs { TellsAsker (V.seen view.now) asking result (revoke_one_told asking grant.now) }
+    ensures change { ChangesAsked (V.seen view.now) asking result (λ past. of_grants (revoking_of past asking.to.caller grant.now)) }
 {
-    let change = grants_changed(revoking(asking, grant));
-    if !grant.is_live_at(asking.occasion.moment) {
-        return asking.answer(alloc, Answer::Refused(ErrorCause::NoSuchGrant), change);
-    }
-    if !asking.may_for(grant.key.uid()) {
-        return asking.answer(alloc, Answer::Refused(ErrorCause::NotYours), change);
-    }
-    done_and_changed(alloc, view, asking, change)
+    let outputs = revoke_outputs(alloc, view, asking, grant)?;
+    Ok(Answered {
+        outputs,
+        change: grants_changed(revoking(asking, grant)),
+    })
 }
 
 /// Revokes the temporary authorization of a text. The numbers of all are below the one that was made
@@ -224,8 +241,9 @@ fn revoke_named<V: JournalView>(
     id: &Text,
     _made: u64,
 ) -> Result<Answered, NoMemory>
-    ensures outputs { (past : List Item) → IsAsked past (V.seen view.now) asking → _made ≡ made past → IfOk result (λ a. a.outputs ≡ call_outputs past asking (TheCall.RevokeOne id.now)) }
-    ensures change { (past : List Item) → IsAsked past (V.seen view.now) asking → IfOk result (λ a. a.change ≡ call_change past asking (TheCall.RevokeOne id.now)) }
+    ensures outputs { (past : List Item) → IsAsked past (V.seen view.now) asking → _made ≡ made past
+        → IfOk result (λ a. a.outputs ≡ call_outputs past asking (TheCall.RevokeOne id.now)) }
+    ensures change { ChangesByCall (V.seen view.now) asking (TheCall.RevokeOne id.now) result }
 {
     match view.grant_named(id) {
         Some(grant) => revoke(alloc, view, asking, grant),
@@ -240,8 +258,8 @@ pub fn revoke_one<V: JournalView>(
     asking: Asking,
     id: &Text,
 ) -> Result<Answered, NoMemory>
-    ensures outputs { (past : List Item) → IsAsked past (V.seen view.now) asking → IfOk result (λ a. a.outputs ≡ call_outputs past asking (TheCall.RevokeOne id.now)) }
-    ensures change { (past : List Item) → IsAsked past (V.seen view.now) asking → IfOk result (λ a. a.change ≡ call_change past asking (TheCall.RevokeOne id.now)) }
+    ensures outputs { AnswersCall (V.seen view.now) asking (TheCall.RevokeOne id.now) result }
+    ensures change { ChangesByCall (V.seen view.now) asking (TheCall.RevokeOne id.now) result }
 {
     let made = view.counts().made;
     revoke_named(alloc, view, asking, id, made)

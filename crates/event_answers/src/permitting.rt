@@ -18,7 +18,8 @@ pub fn permitted<'a, V: JournalView>(
     asking: Asking,
     subject: &Subject,
 ) -> Result<Facts<'a>, ErrorCause>
-    ensures facts { (past : List Item) → IsAsked past (V.seen view.now) asking → MatchResult result (λ f. permitted past asking.to.caller subject.now ≡ Ok (facts_seen f)) (λ cause. permitted past asking.to.caller subject.now ≡ Err cause) }
+    ensures facts { (past : List Item) → IsAsked past (V.seen view.now) asking → let known = permitted past asking.to.caller subject.now in
+        MatchResult result (λ f. known ≡ Ok (facts_seen f)) (λ cause. known ≡ Err cause) }
 {
     match facts(view, subject) {
         None => Err(ErrorCause::UnknownSubject),

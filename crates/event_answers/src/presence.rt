@@ -20,7 +20,8 @@ fn present(peer: Option<Peer>) -> Option<Peer>
 /// The row of a connection that is live.
 #[tactic(auto, using(crate::proofs::Callers::present_is))]
 pub fn live_peer<V: JournalView>(view: &V, caller: u32) -> Option<Peer>
-    ensures live { (past : List Item) → IsSeenOf past (V.seen view.now) → MatchOption result (live past caller ≡ false) (IsLivePeer past caller) }
+    ensures live { (past : List Item) → IsSeenOf past (V.seen view.now)
+        → MatchOption result (live past caller ≡ false) (IsLivePeer past caller) }
 {
     present(view.peer(caller))
 }

@@ -1,20 +1,16 @@
 // Agents that are registered and unregistered.
-ghost use Rattle.std.specs.Prelude.{◌≡◌, List, IfOk, if◌then◌else◌, is_some};
-ghost use Rattle.std.specs.Option.{option_map_or};
+ghost use Rattle.std.specs.Prelude.{◌≡◌, IfOk};
 ghost use Rattle.entry_changes.specs.declared.change.AgentChange.{AgentChange as TheChange};
 ghost use Rattle.authority_model.specs.declared.event.Call.{Call as TheCall};
-ghost use Rattle.authority_model.specs.declared.journal.Item.{Item};
-ghost use Rattle.authority_model.specs.declared.message.Answer.{Answer as TheAnswer};
-ghost use Rattle.authority_model.specs.declared.message.ErrorCause.{ErrorCause as TheCause};
-ghost use Rattle.authority_model.specs.Agents.{agent_of, in_force};
-ghost use Rattle.authority_model.specs.Answers.{answer_unregister, refuse as refusal_of};
-ghost use Rattle.entry_changes.specs.Changes.{registering};
+ghost use Rattle.authority_model.specs.Challenges.{pending_at};
 ghost use Rattle.authority_model.specs.Facts.{facts_seen};
-ghost use Rattle.event_answers.specs.Asked.{IsAsked, call_change, call_outputs, of_agents, reply_of, unchanged, unregistering_at};
+ghost use Rattle.event_answers.specs.Asked.{AnswersCall, ChangesAsked, ChangesByCall, TellsAsker};
+ghost use Rattle.event_answers.specs.Endings.{EndCloses, EndTells};
+ghost use Rattle.event_answers.specs.Told.{register_changes, register_told, registration_by, registration_end_told, unregister_changes, unregister_changes_at, unregister_told, unregister_told_at};
 
 use crate::answered::{Answered, agents_changed};
 use crate::asking::Asking;
-use crate::ending::{Ended, end_at};
+use crate::ending::{Ended, close_places, end_at};
 use crate::permitting::permitted;
 use authority_model::{Agent, Answer, ErrorCause, Facts};
 use entry_changes::{AgentChange, EntryChange, GrantChange};
@@ -29,7 +25,7 @@ fn registration(
     locale: &Text,
     path: &Text,
 ) -> Result<AgentChange, NoMemory>
-    ensures added { IfOk result (λ change. change ≡ TheChange.Add (record { caller = asking.to.caller; path = path.now; locale = locale.now; key = (facts_seen facts.entry).key })) }
+    ensures added { IfOk result (λ c. c ≡ TheChange.Add (registration_by asking.to.caller locale.now path.now (facts_seen facts.entry))) }
 {
     Ok(AgentChange::Add(Agent {
         caller: asking.to.caller,
@@ -48,14 +44,18 @@ fn register_for<V: JournalView>(
     locale: &Text,
     path: &Text,
 ) -> Result<Answered, NoMemory>
-    ensures outputs { (past : List Item) → IsAsked past (V.seen view.now) asking → IfOk result (λ a. a.outputs ≡ (if is_some (agent_of (facts_seen facts.entry).key (in_force past)) then refusal_of (reply_of asking.to) TheCause.AgentExists else reply_of asking.to TheAnswer.Done)) }
-    ensures change { (past : List Item) → IsAsked past (V.seen view.now) asking → IfOk result (λ a. a.change ≡ of_agents (registering past asking.to.caller locale.now path.now (facts_seen facts.entry))) }
+    ensures outputs { TellsAsker (V.seen view.now) asking result (register_told asking (facts_seen facts.entry)) }
+    ensures change { ChangesAsked (V.seen view.now) asking result (register_changes asking locale.now path.now (facts_seen facts.entry)) }
 {
     match view.agent_of(facts.key) {
         Some(_) => asking.refuse(alloc, ErrorCause::AgentExists),
         None => {
+            let outputs = asking.to.reply(alloc, Answer::Done)?;
             let added = registration(asking, facts, locale, path)?;
-            asking.answer(alloc, Answer::Done, agents_changed(added))
+            Ok(Answered {
+                outputs,
+                change: agents_changed(added),
+            })
         }
     }
 }
@@ -69,13 +69,28 @@ pub fn register<V: JournalView>(
     locale: &Text,
     path: &Text,
 ) -> Result<Answered, NoMemory>
-    ensures outputs { (past : List Item) → IsAsked past (V.seen view.now) asking → IfOk result (λ a. a.outputs ≡ call_outputs past asking (TheCall.Register subject.now locale.now path.now)) }
-    ensures change { (past : List Item) → IsAsked past (V.seen view.now) asking → IfOk result (λ a. a.change ≡ call_change past asking (TheCall.Register subject.now locale.now path.now)) }
+    ensures outputs { AnswersCall (V.seen view.now) asking (TheCall.Register subject.now locale.now path.now) result }
+    ensures change { ChangesByCall (V.seen view.now) asking (TheCall.Register subject.now locale.now path.now) result }
 {
     match permitted(view, asking, subject) {
         Ok(facts) => register_for(alloc, view, asking, facts, locale, path),
         Err(cause) => asking.refuse(alloc, cause),
     }
+}
+
+/// Answers the pending checks at the caller's registration of a subject, and then the caller.
+fn end_registration<V: JournalView>(
+    alloc: Global,
+    view: &V,
+    asking: Asking,
+    facts: Facts,
+) -> Result<Ended, NoMemory>
+    ensures outputs { EndTells (V.seen view.now) result (registration_end_told asking (facts_seen facts.entry)) }
+    ensures closed { EndCloses (V.seen view.now) result (λ past. pending_at past asking.to.caller (facts_seen facts.entry).key) }
+{
+    let mut ended = end_at(alloc, view, asking.to.caller, facts.key)?;
+    asking.to.send(&mut ended.outputs, Answer::Done)?;
+    Ok(ended)
 }
 
 /// Unregisters this agent of a subject, if it is the caller's with this path.
@@ -87,25 +102,21 @@ fn unregister_agent<V: JournalView>(
     path: &Text,
     agent: &Agent,
 ) -> Result<Answered, NoMemory>
-    ensures outputs { (past : List Item) → IsAsked past (V.seen view.now) asking → IfOk result (λ a. a.outputs ≡ answer_unregister past asking.to.caller path.now (reply_of asking.to) (facts_seen facts.entry) agent.now) }
-    ensures change { (past : List Item) → IsAsked past (V.seen view.now) asking → IfOk result (λ a. a.change ≡ unregistering_at past asking.to.caller path.now (facts_seen facts.entry) agent.now) }
+    ensures outputs { TellsAsker (V.seen view.now) asking result (unregister_told_at asking path.now (facts_seen facts.entry) agent.now) }
+    ensures change { ChangesAsked (V.seen view.now) asking result (unregister_changes_at asking path.now (facts_seen facts.entry) agent.now) }
 {
     let caller = asking.to.caller;
     if agent.caller != caller || !agent.path.is_same(path) {
         return asking.refuse(alloc, ErrorCause::NoSuchAgent);
     }
-    let Ended {
-        mut outputs,
-        change,
-    } = end_at(alloc, view, caller, facts.key)?;
-    asking.to.send(&mut outputs, Answer::Done)?;
-    let dropped = AgentChange::Drop(facts.key.try_own()?);
+    let key = facts.key.try_own()?;
+    let Ended { outputs, places } = end_registration(alloc, view, asking, facts)?;
     Ok(Answered {
         outputs,
         change: EntryChange {
-            agent: dropped,
+            agent: AgentChange::Drop(key),
             grant: GrantChange::Keep,
-            challenge: change,
+            challenge: close_places(places),
         },
     })
 }
@@ -118,8 +129,8 @@ fn unregister_for<V: JournalView>(
     facts: Facts,
     path: &Text,
 ) -> Result<Answered, NoMemory>
-    ensures outputs { (past : List Item) → IsAsked past (V.seen view.now) asking → IfOk result (λ a. a.outputs ≡ option_map_or (answer_unregister past asking.to.caller path.now (reply_of asking.to) (facts_seen facts.entry)) (agent_of (facts_seen facts.entry).key (in_force past)) (refusal_of (reply_of asking.to) TheCause.NoSuchAgent)) }
-    ensures change { (past : List Item) → IsAsked past (V.seen view.now) asking → IfOk result (λ a. a.change ≡ option_map_or (unregistering_at past asking.to.caller path.now (facts_seen facts.entry)) (agent_of (facts_seen facts.entry).key (in_force past)) unchanged) }
+    ensures outputs { TellsAsker (V.seen view.now) asking result (unregister_told asking path.now (facts_seen facts.entry)) }
+    ensures change { ChangesAsked (V.seen view.now) asking result (unregister_changes asking path.now (facts_seen facts.entry)) }
 {
     match view.agent_of(facts.key) {
         Some(agent) => unregister_agent(alloc, view, asking, facts, path, agent),
@@ -135,8 +146,8 @@ pub fn unregister<V: JournalView>(
     subject: &Subject,
     path: &Text,
 ) -> Result<Answered, NoMemory>
-    ensures outputs { (past : List Item) → IsAsked past (V.seen view.now) asking → IfOk result (λ a. a.outputs ≡ call_outputs past asking (TheCall.Unregister subject.now path.now)) }
-    ensures change { (past : List Item) → IsAsked past (V.seen view.now) asking → IfOk result (λ a. a.change ≡ call_change past asking (TheCall.Unregister subject.now path.now)) }
+    ensures outputs { AnswersCall (V.seen view.now) asking (TheCall.Unregister subject.now path.now) result }
+    ensures change { ChangesByCall (V.seen view.now) asking (TheCall.Unregister subject.now path.now) result }
 {
     match permitted(view, asking, subject) {
         Ok(facts) => unregister_for(alloc, view, asking, facts, path),

@@ -58,7 +58,8 @@ pub fn reply_agent_gone(
 /// Each of them has an entry of its own, its Connect: so there are no more of them than entries.
 #[tactic(auto, using(crate::proofs::Living::all_of, crate::proofs::Living::few))]
 pub fn tell_changed<V: JournalView>(outputs: &mut OutputList, view: &V) -> Result<(), NoMemory>
-    ensures told { (past : List Item) → IsSeenOf past (V.seen view.now) → OnOk result (outputs.new ≡ outputs.old ++ changed_of past) }
+    ensures told { (past : List Item) → IsSeenOf past (V.seen view.now)
+        → OnOk result (outputs.new ≡ outputs.old ++ changed_of past) }
 {
     for i in 0..view.counts().entries {
         let Some(caller) = view.live(i as usize) else {

@@ -1,11 +1,10 @@
 // Responses of agents: the user was authenticated (AuthenticationAgentResponse in the reference manual).
-ghost use Rattle.std.specs.Prelude.{◌≡◌, List, IfOk, is_some, not, if◌then◌else◌};
-ghost use Rattle.entry_changes.specs.declared.change.ChallengeChange.{ChallengeChange as TheChange};
+ghost use Rattle.std.specs.Prelude.{◌≡◌, IfOk};
 ghost use Rattle.authority_model.specs.declared.event.Call.{Call as TheCall};
-ghost use Rattle.authority_model.specs.declared.journal.Item.{Item};
 ghost use Rattle.authority_model.specs.Answers.{answer_respond};
 ghost use Rattle.entry_changes.specs.Changes.{responding};
-ghost use Rattle.event_answers.specs.Asked.{IsAsked, call_change, call_outputs, of_challenges, reply_of};
+ghost use Rattle.event_answers.specs.Asked.{AnswersCall, ChangesByCall, of_challenges, reply_of};
+ghost use Rattle.event_answers.specs.Told.{first_answer as first_answer_of};
 
 use crate::answered::{Answered, challenges_changed};
 use crate::asking::Asking;
@@ -17,7 +16,7 @@ use std::alloc::Global;
 
 /// The first identity that answers a challenge stands.
 fn first_answer(identity: Identity, challenge: &Pending) -> ChallengeChange
-    ensures first { result ≡ (if not (is_some challenge.now.answered) then TheChange.Answer challenge.now.entry identity else TheChange.Keep) }
+    ensures first { result ≡ first_answer_of identity challenge.now }
 {
     match challenge.answered {
         Some(_) => ChallengeChange::Keep,
@@ -41,8 +40,11 @@ fn respond_to(
     if !offers(challenge.identities.as_slice(), identity) {
         return asking.refuse(alloc, ErrorCause::NotOffered);
     }
-    let change = first_answer(identity, challenge);
-    asking.answer(alloc, Answer::Done, challenges_changed(change))
+    let outputs = asking.to.reply(alloc, Answer::Done)?;
+    Ok(Answered {
+        outputs,
+        change: challenges_changed(first_answer(identity, challenge)),
+    })
 }
 
 /// Answers Respond, which only uid 0 may call.
@@ -53,8 +55,8 @@ pub fn respond<V: JournalView>(
     cookie: &Text,
     identity: Identity,
 ) -> Result<Answered, NoMemory>
-    ensures outputs { (past : List Item) → IsAsked past (V.seen view.now) asking → IfOk result (λ a. a.outputs ≡ call_outputs past asking (TheCall.Respond cookie.now identity)) }
-    ensures change { (past : List Item) → IsAsked past (V.seen view.now) asking → IfOk result (λ a. a.change ≡ call_change past asking (TheCall.Respond cookie.now identity)) }
+    ensures outputs { AnswersCall (V.seen view.now) asking (TheCall.Respond cookie.now identity) result }
+    ensures change { ChangesByCall (V.seen view.now) asking (TheCall.Respond cookie.now identity) result }
 {
     if !asking.is_root() {
         return asking.refuse(alloc, ErrorCause::NotPrivileged);

@@ -1,23 +1,23 @@
 // What follows the reply of an agent to BeginAuthentication.
-ghost use Rattle.std.specs.Prelude.{◌≡◌, ◌++◌, ℕ, List, Some, None, IfOk, OnOk, bytes_eq, if◌then◌else◌, is_some, [], option_map};
+ghost use Rattle.std.specs.Prelude.{◌≡◌, ◌++◌, List, IfOk, OnOk};
 ghost use Rattle.authority_model.specs.declared.event.Event.TheVariants.{Returned, AgentError};
 ghost use Rattle.authority_model.specs.declared.journal.Item.{Item};
-ghost use Rattle.authority_model.specs.declared.verdict.Reason.{Reason as TheReason};
-ghost use Rattle.authority_model.specs.Answers.{answers, answer_error as error_of, answer_return as return_of, cancelled_name, changed as changed_of, tell_return as told_return};
-ghost use Rattle.entry_changes.specs.Changes.{close_one, entry_change, granting};
-ghost use Rattle.authority_model.specs.Grants.{grant_row};
+ghost use Rattle.authority_model.specs.Answers.{answer_error as error_of, answer_return as return_of, tell_return as told_return};
+ghost use Rattle.entry_changes.specs.Changes.{close_one};
 ghost use Rattle.authority_model.specs.Small.{IsShort};
 ghost use Rattle.journal_view.specs.Seen.{IsSeenOf};
-ghost use Rattle.event_answers.specs.Asked.{grant_added, of_challenges, returning};
+ghost use Rattle.event_answers.specs.declared.asking.Occasion.{Occasion as TheOccasion};
+ghost use Rattle.event_answers.specs.Asked.{AnswersEvent, Changes, ChangesByEvent, Tells, grant_added, of_challenges, returning, returning_with};
+ghost use Rattle.event_answers.specs.Told.{reason_of_error, told_of_grant};
 
 use crate::answered::{Answered, challenges_changed, no_outputs, nothing};
 use crate::asking::Occasion;
-use crate::cancelling::close;
+use crate::cancelling::place_alone;
 use crate::presence::is_live;
 use crate::replies::{reply_to, tell_changed};
 use authority_model::{Answer, GRANT_SECONDS, GrantRow, OutputList, Pending, Reason, Verdict};
 use check_decision::no;
-use entry_changes::{AgentChange, EntryChange, GrantChange};
+use entry_changes::{AgentChange, ChallengeChange, EntryChange, GrantChange};
 use journal_view::JournalView;
 use pk_types::{NoMemory, Text, TryCopy};
 use std::alloc::Global;
@@ -25,7 +25,7 @@ use view_decision::return_verdict;
 
 /// Why a challenge ends where the agent answers with an error of this name.
 fn reason_of(name: &Text) -> Reason
-    ensures reason { result ≡ (if bytes_eq name.now cancelled_name then TheReason.Dismissed else TheReason.Challenge) }
+    ensures reason { result ≡ reason_of_error name.now }
 {
     if name.bytes() == b"org.freedesktop.PolicyKit1.Error.Cancelled".as_slice() {
         Reason::Dismissed
@@ -42,8 +42,11 @@ fn fail(alloc: Global, challenge: &Pending, name: &Text) -> Result<Answered, NoM
     let verdict = no(alloc, reason_of(name));
     let mut outputs = no_outputs(alloc)?;
     reply_to(&mut outputs, challenge, Answer::Verdict(verdict))?;
-    let change = challenges_changed(close(alloc, challenge)?);
-    Ok(Answered { outputs, change })
+    let places = place_alone(alloc, challenge)?;
+    Ok(Answered {
+        outputs,
+        change: challenges_changed(ChallengeChange::Close(places)),
+    })
 }
 
 /// Answers the error of an agent.
@@ -54,8 +57,8 @@ pub fn answer_error<V: JournalView>(
     serial: u32,
     name: &Text,
 ) -> Result<Answered, NoMemory>
-    ensures outputs { (past : List Item) → IsSeenOf past (V.seen view.now) → (t salt : ℕ) → IfOk result (λ a. a.outputs ≡ answers past caller t salt (AgentError serial name.now) None) }
-    ensures change { (past : List Item) → IsSeenOf past (V.seen view.now) → (t salt : ℕ) → IfOk result (λ a. a.change ≡ entry_change past caller t salt (AgentError serial name.now) None) }
+    ensures outputs { (at : TheOccasion) → AnswersEvent (V.seen view.now) caller at (AgentError serial name.now) result }
+    ensures change { (at : TheOccasion) → ChangesByEvent (V.seen view.now) caller at (AgentError serial name.now) result }
 {
     if !is_live(view, caller) {
         return Ok(nothing(alloc));
@@ -95,7 +98,8 @@ fn tell_grant<V: JournalView>(
     view: &V,
     grant: Option<u64>,
 ) -> Result<(), NoMemory>
-    ensures told { (past : List Item) → IsSeenOf past (V.seen view.now) → OnOk result (outputs.new ≡ outputs.old ++ (if is_some grant then changed_of past else [])) }
+    ensures told { (past : List Item) → IsSeenOf past (V.seen view.now)
+        → OnOk result (outputs.new ≡ outputs.old ++ told_of_grant grant past) }
 {
     match grant {
         Some(_) => tell_changed(outputs, view),
@@ -111,11 +115,45 @@ fn tell_return<V: JournalView>(
     challenge: &Pending,
     verdict: Verdict,
 ) -> Result<(), NoMemory>
-    ensures told { (past : List Item) → IsSeenOf past (V.seen view.now) → OnOk result (outputs.new ≡ outputs.old ++ told_return past challenge.now verdict) }
+    ensures told { (past : List Item) → IsSeenOf past (V.seen view.now)
+        → OnOk result (outputs.new ≡ outputs.old ++ told_return past challenge.now verdict) }
 {
     let grant = verdict.grant;
     reply_to(outputs, challenge, Answer::Verdict(verdict))?;
     tell_grant(outputs, view, grant)
+}
+
+/// The outputs of a return with this verdict.
+fn return_outputs<V: JournalView>(
+    alloc: Global,
+    view: &V,
+    challenge: &Pending,
+    verdict: Verdict,
+) -> Result<OutputList, NoMemory>
+    ensures told { (past : List Item) → IsSeenOf past (V.seen view.now)
+        → IfOk result (λ outputs. outputs ≡ told_return past challenge.now verdict) }
+{
+    let mut outputs = no_outputs(alloc)?;
+    tell_return(&mut outputs, view, challenge, verdict)?;
+    Ok(outputs)
+}
+
+/// A return closes its challenge, and makes the temporary authorization with this number, if any.
+fn return_change(
+    alloc: Global,
+    challenge: &Pending,
+    moment: u64,
+    number: Option<u64>,
+) -> Result<EntryChange, NoMemory>
+    ensures change { IfOk result (λ c. c ≡ returning_with number moment challenge.now) }
+{
+    let places = place_alone(alloc, challenge)?;
+    let grant = grant_change(challenge, moment, number)?;
+    Ok(EntryChange {
+        agent: AgentChange::Keep,
+        grant,
+        challenge: ChallengeChange::Close(places),
+    })
 }
 
 /// Answers the check whose challenge a return closes: it is decided again.
@@ -126,18 +164,13 @@ fn decide<V: JournalView>(
     challenge: &Pending,
 ) -> Result<Answered, NoMemory>
     requires rules { IsShort (V.seen view.now).loaded.policy.entries }
-    ensures outputs { (past : List Item) → IsSeenOf past (V.seen view.now) → IfOk result (λ a. a.outputs ≡ return_of past moment challenge.now) }
-    ensures change { (past : List Item) → IsSeenOf past (V.seen view.now) → IfOk result (λ a. a.change ≡ returning past moment challenge.now) }
+    ensures outputs { Tells (V.seen view.now) result (λ past. return_of past moment challenge.now) }
+    ensures change { Changes (V.seen view.now) result (λ past. returning past moment challenge.now) }
 {
     let verdict = return_verdict(alloc, view, moment, challenge)?;
-    let grant = grant_change(challenge, moment, verdict.grant)?;
-    let mut outputs = no_outputs(alloc)?;
-    tell_return(&mut outputs, view, challenge, verdict)?;
-    let change = EntryChange {
-        agent: AgentChange::Keep,
-        grant,
-        challenge: close(alloc, challenge)?,
-    };
+    let grant = verdict.grant;
+    let outputs = return_outputs(alloc, view, challenge, verdict)?;
+    let change = return_change(alloc, challenge, moment, grant)?;
     Ok(Answered { outputs, change })
 }
 
@@ -150,8 +183,8 @@ pub fn answer_return<V: JournalView>(
     serial: u32,
 ) -> Result<Answered, NoMemory>
     requires rules { IsShort (V.seen view.now).loaded.policy.entries }
-    ensures outputs { (past : List Item) → IsSeenOf past (V.seen view.now) → IfOk result (λ a. a.outputs ≡ answers past caller occasion.moment occasion.salt (Returned serial) None) }
-    ensures change { (past : List Item) → IsSeenOf past (V.seen view.now) → IfOk result (λ a. a.change ≡ entry_change past caller occasion.moment occasion.salt (Returned serial) None) }
+    ensures outputs { AnswersEvent (V.seen view.now) caller occasion (Returned serial) result }
+    ensures change { ChangesByEvent (V.seen view.now) caller occasion (Returned serial) result }
 {
     if !is_live(view, caller) {
         return Ok(nothing(alloc));

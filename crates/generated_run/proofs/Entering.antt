@@ -22,7 +22,8 @@ use Rattle.generated_run.specs.Run.{entered, each_entered, connects, registers, 
 use Rattle.generated_run.specs.Setup.{setup}
 use Rattle.generated_run.specs.declared.refused.RunRefused.TheVariants as refused
 use Rattle.generated_run.specs.Stops.{StopsIn}
-use Rattle.generated_run.specs.Tallies.{Tallies, Has}
+use Rattle.generated_run.specs.Kept.{Has}
+use Rattle.generated_run.specs.Summaries.{summary_of}
 use Rattle.generated_run.proofs.Steps.{entered_is, each_entered_none, each_entered_more, set_up_is, generated_none, generated_more}
 
 -- the entry after others
@@ -46,9 +47,9 @@ newest_is past old new g found place items grows at is =
 
 -- a run has the next item besides
 pub has_next : (past : List Item) (old new : Run) (g : Given) → Has past old → new.authority.limits ≡ old.authority.limits → items_of new.authority.history ≡ next (items_of old.authority.history) g ∷ items_of old.authority.history
-    → Tallies (next past g ∷ past) new.tally → Has (entered past g) new
+    → new.summary ≡ summary_of (next past g ∷ past) → Has (entered past g) new
 unfolding entered
-has_next past old new g has same grows tally = record { items = grows ∙ ap (λ p. next p g ∷ p) has.items; limits = same ∙ has.limits; tally = tally }
+has_next past old new g has same grows summary = record { items = grows ∙ ap (λ p. next p g ∷ p) has.items; limits = same ∙ has.limits; summary = summary }
 
 -- no event was entered yet
 pub none_entered : (given : ℕ → Given) (past : List Item) (run : Run) → Has past run → Has (each_entered given 0 past) run

@@ -11,7 +11,7 @@ use Rattle.generated_run.specs.declared.refused.RunRefused.{RunRefused}
 use Rattle.generated_run.specs.declared.refused.RunRefused.TheVariants as refused
 use Rattle.generated_run.specs.Run.{entered, each_entered, connects, registers, root_connects, set_up, asked_last, caller_of, check, response, dismissed, authenticated, answered, followed, checked, generated}
 use Rattle.generated_run.specs.Setup.{setup}
-use Rattle.generated_run.specs.Stops.{GoesOn, IsFullIn, StopsIn}
+use Rattle.generated_run.specs.Stops.{StopsIn}
 use Rattle.generated_run.proofs.Steps.{entered_is, each_entered_none, each_entered_more, set_up_is, generated_none, generated_more}
 
 -- items, and maybe more above them

@@ -1,5 +1,5 @@
 pub mod Setup
 pub mod Run
 pub mod Summaries
-pub mod Tallies
+pub mod Kept
 pub mod Stops

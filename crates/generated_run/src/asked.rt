@@ -56,7 +56,7 @@ fn asked_by(serial: u32, message: &Message) -> Option<Asked>
 }
 
 /// The serial after this one.
-fn after(serial: u32) -> Result<u32, NoMemory>
+pub fn after(serial: u32) -> Result<u32, NoMemory>
     ensures next { IfOk result (λ next. next ≡ serial + 1) }
 {
     // No connection is sent that many outputs.

@@ -11,7 +11,6 @@ mod refused;
 mod run;
 mod setup;
 mod summary;
-mod tally;
 mod texts;
 
 pub use refused::RunRefused;

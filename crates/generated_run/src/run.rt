@@ -4,18 +4,17 @@ ghost use Rattle.authority_model.specs.declared.journal.Item.{Item};
 ghost use Rattle.authority_model.specs.Given.{IsStepped, event_given, load_given};
 ghost use Rattle.authority_model.specs.Legal.{Legal};
 ghost use Rattle.authority_model.specs.Licensed.{AllLicensed};
+ghost use Rattle.generated_run.specs.Kept.{Has};
 ghost use Rattle.generated_run.specs.Run.{entered, each_entered, connects, registers, set_up, asked_last, dismissed, authenticated, answered, checked, generated};
 ghost use Rattle.generated_run.specs.Setup.{setup};
 ghost use Rattle.generated_run.specs.Stops.{StopsIn};
 ghost use Rattle.generated_run.specs.Summaries.{summary_of};
-ghost use Rattle.generated_run.specs.Tallies.{Has};
 
-use crate::asked::Asked;
+use crate::asked::{Asked, after, asked_in};
 use crate::events::{cancelled, check, registration, response};
 use crate::refused::RunRefused;
 use crate::setup::setup;
 use crate::summary::Summary;
-use crate::tally::Tally;
 use authority_core::{Authority, Limits, LoadStepRefused, StepRefused};
 use authority_model::{Event, Loaded};
 use pk_types::NoMemory;
@@ -29,7 +28,8 @@ const ROOT: u32 = 9;
 pub struct Run {
     alloc: Global,
     authority: Authority,
-    tally: Tally,
+    /// The totals so far, so that no step walks the journal.
+    summary: Summary,
 }
 
 impl Run {
@@ -41,7 +41,7 @@ impl Run {
         Ok(Run {
             alloc,
             authority,
-            tally: Tally::start(alloc),
+            summary: Summary::start(),
         })
     }
 
@@ -55,7 +55,7 @@ impl Run {
                 let Some(entry) = self.authority.entry(place) else {
                     unreachable!();
                 };
-                self.tally.add(entry)?;
+                self.summary.add(entry)?;
                 Ok(())
             }
             Err(LoadStepRefused::JournalFull { entries, bytes, .. }) => {
@@ -73,12 +73,15 @@ impl Run {
         ensures asked { (past : List Item) → Has past self.old → IfOk result (λ asked. asked ≡ asked_last (entered past (event_given caller moment 0 event))) }
         ensures stop { (past : List Item) → Has past self.old → IfErr result (StopsIn (entered past (event_given caller moment 0 event))) }
     {
+        let serial = after(self.authority.sent_count(caller))?;
         match self.authority.step(caller, moment, 0, event) {
             Ok(place) => {
                 let Some(entry) = self.authority.entry(place) else {
                     unreachable!();
                 };
-                Ok(self.tally.add(entry)?)
+                let asked = asked_in(caller, serial, entry.outputs.as_slice())?;
+                self.summary.add(entry)?;
+                Ok(asked)
             }
             Err(StepRefused::JournalFull { entries, bytes, .. }) => {
                 Err(RunRefused::JournalFull { entries, bytes })
@@ -201,10 +204,9 @@ impl Run {
         ensures legal { (past : List Item) → Has past self.now → Legal past }
         ensures licensed { (past : List Item) → Has past self.now → AllLicensed past }
     {
-        Summary {
-            entries: self.authority.history().entries.len() as u64,
-            ..self.tally.summary()
-        }
+        // It is the journal that is legal.
+        let _journal = self.authority.history();
+        self.summary
     }
 }
 

@@ -1,2 +1,4 @@
 mod Above
+mod Listing
 mod Turns
+mod Writing

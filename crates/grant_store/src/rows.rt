@@ -7,6 +7,7 @@ ghost use Rattle.authority_model.specs.Lists.{Each};
 ghost use Rattle.authority_model.specs.Keys.{key_seen, same_key};
 ghost use Rattle.authority_model.specs.Deciding.{serves};
 ghost use Rattle.entry_changes.specs.Changes.{unlisted, grant_named};
+ghost use Rattle.grant_store.specs.Listed.{LeadTo, rows_under};
 ghost use Rattle.grant_store.specs.Rows.{AreInTurn, HasExpiredBefore};
 
 use authority_model::{Entry, GrantRow, Key, KeyRef, World};
@@ -127,11 +128,57 @@ impl GrantRows {
         }
     }
 
-    /// The first that is for a key and an action, and has not expired at a moment.
-    pub fn serving(&self, key: KeyRef, action: &Text, moment: u64) -> Option<&GrantRow>
+    /// The one with a number, if it is for a key and an action and has not expired at a moment.
+    fn serving_at(&self, number: u64, key: KeyRef, action: &Text, moment: u64) -> Option<&GrantRow>
+        ensures row { option_copied result ≡ find (serves (key_seen key.entry) action.now moment) (rows_under self.now.items (number ∷ [])) }
+    {
+        let row = self.of_id(number)?;
+        if row.serves(key, action, moment) {
+            Some(row)
+        } else {
+            None
+        }
+    }
+
+    /// The first under numbers that is for a key and an action, and has not expired at a moment.
+    fn serving_under(
+        &self,
+        numbers: &[u64],
+        key: KeyRef,
+        action: &Text,
+        moment: u64,
+    ) -> Option<&GrantRow>
+        ensures row { option_copied result ≡ find (serves (key_seen key.entry) action.now moment) (rows_under self.now.items numbers.now) }
+    {
+        for number in numbers {
+            match self.serving_at(*number, key, action, moment) {
+                Some(row) => return Some(row),
+                None => {}
+            }
+        }
+        None
+    }
+
+    /// The first that is for a key and an action, and has not expired at a moment. It looks at those under
+    /// the numbers, which lead to those of the key, or at those that have not expired, whichever are fewer.
+    pub fn serving(
+        &self,
+        numbers: &[u64],
+        key: KeyRef,
+        action: &Text,
+        moment: u64,
+    ) -> Option<&GrantRow>
+        requires numbers { LeadTo self.now.items (key_seen key) numbers.now }
         ensures row { option_copied result ≡ find (serves (key_seen key.entry) action.now moment) self.now.items }
     {
-        self.serving_from(self.first_live(moment), key, action, moment)
+        let first = self.first_live(moment);
+        let live = self.len() - first;
+        let few = numbers.len();
+        if live <= few {
+            self.serving_from(first, key, action, moment)
+        } else {
+            self.serving_under(numbers, key, action, moment)
+        }
     }
 
     /// Takes room for one more. A refusal leaves them as they were.

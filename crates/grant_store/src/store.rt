@@ -9,10 +9,13 @@ ghost use Rattle.authority_model.specs.Keys.{key_seen};
 ghost use Rattle.authority_model.specs.Deciding.{serves};
 ghost use Rattle.entry_changes.specs.Changes.{after_grants, grant_named};
 
+use crate::by_key::{KeyNumbers, numbers_of};
 use crate::rows::GrantRows;
-use crate::staged::{carry, prepare};
+use crate::staged::{Staged, carry, prepare};
 use authority_model::{Entry, GrantRow, KeyRef, World};
 use entry_changes::GrantChange;
+use indexmap::IndexMap;
+use key_index::KeyOf;
 use pk_types::{NoMemory, Text};
 use std::alloc::Global;
 use std::marker::Model;
@@ -21,18 +24,23 @@ use std::marker::Model;
 /// Some of them may have expired (TemporaryAuthorization in the reference manual).
 #[derive(Drop)]
 pub struct GrantStore {
+    alloc: Global,
     rows: GrantRows,
-    staged: Option<GrantChange>,
+    /// The numbers of each subject, by which they are found.
+    by_key: KeyNumbers,
+    staged: Option<Staged>,
 }
 
 impl Model for GrantStore {
-    ghost use Rattle.grant_store.specs.Store.{Grants, IsReady};
+    ghost use Rattle.std.specs.Option.{option_map};
+    ghost use Rattle.grant_store.specs.Listed.{AreListed};
+    ghost use Rattle.grant_store.specs.Store.{Grants, IsReady, change_of};
 
     ghost Value = { Grants };
 
-    ghost view = { λ a. record { items = a.rows.items; staged = a.staged } };
+    ghost view = { λ a. record { items = a.rows.items; staged = option_map change_of a.staged } };
 
-    ghost invariant = { λ a. IsReady a.rows.room a.staged };
+    ghost invariant = { λ a. IsReady a.rows.room a.by_key.entries a.staged × AreListed a.rows.items a.by_key.entries };
 }
 
 impl GrantStore {
@@ -41,17 +49,22 @@ impl GrantStore {
         ensures items { IfOk result (λ store. store.items ≡ []) }
         ensures none { IfOk result (λ store. store.staged ≡ None) }
     {
-        Ok(GrantStore {
-            rows: GrantRows::new(alloc),
+        let rows = GrantRows::new(alloc);
+        let by_key = IndexMap::new(alloc);
+        let store = GrantStore {
+            alloc,
+            rows,
+            by_key,
             staged: None,
-        })
+        };
+        Ok(store)
     }
 
     /// The number of the least one that is for a subject and an action and has not expired at a moment.
     pub fn live(&self, key: KeyRef, action: &Text, moment: u64) -> Option<u64>
         ensures id { result ≡ option_map (λ g. g.id) (find (serves (key_seen key.entry) action.now moment) self.now.items) }
     {
-        let row = self.rows.serving(key, action, moment)?;
+        let row = self.live_row(key, action, moment)?;
         Some(row.id)
     }
 
@@ -59,7 +72,8 @@ impl GrantStore {
     pub fn live_row(&self, key: KeyRef, action: &Text, moment: u64) -> Option<&GrantRow>
         ensures row { option_copied result ≡ find (serves (key_seen key.entry) action.now moment) self.now.items }
     {
-        self.rows.serving(key, action, moment)
+        let numbers = numbers_of(&self.by_key, &KeyOf::borrowed(key));
+        self.rows.serving(numbers, key, action, moment)
     }
 
     /// The one with this number.
@@ -101,8 +115,8 @@ impl GrantStore {
         ensures err { OnErr result (self.new.staged ≡ None) }
     {
         self.unstage();
-        prepare(&mut self.rows, &change)?;
-        self.staged = Some(change);
+        let staged = prepare(self.alloc, &mut self.rows, &mut self.by_key, change)?;
+        self.staged = Some(staged);
         Ok(())
     }
 
@@ -123,7 +137,7 @@ impl GrantStore {
         ensures none { self.new.staged ≡ None }
     {
         match self.staged.take() {
-            Some(change) => carry(&mut self.rows, entry, world, change),
+            Some(staged) => carry(&mut self.rows, &mut self.by_key, entry, world, staged),
             None => unreachable!(),
         }
     }

@@ -7,6 +7,7 @@ use mathlib.Core.Option.{some, some-injective, some-ne-none}
 use lib.ListN.{get_elem?}
 use Rattle.atomic_table.specs.Table.{State, opening, Splits, Joins, Allows, keeps}
 use Rattle.atomic_table.proofs.Lists.{at_set, set_again}
+use Rattle.history_lock.specs.declared.machine.TheConstants.{MOST_PASSES}
 use Rattle.history_lock.specs.declared.view.Kind.TheVariants.{Book, Caller, Note, Receipt}
 use Rattle.history_lock.specs.declared.view.View.{View}
 use Rattle.history_lock.specs.Rule.{opened, FitsBook, Reaches, RuleAt, MeetsRule, IsTold, holds_rule}
@@ -131,7 +132,7 @@ module _ {I : Type 0} (caller_of : I → ℕ) (Legal : List I → Type 0) (S : T
   }
 
   -- admit keeps the rule
-  pub admits : (id : ℕ) (v : View I) → v.kind ≡ Book → v.in_flight ≡ None → v.made < 1048576 → Splits Held id v (counted_up v) (newcomer v)
+  pub admits : (id : ℕ) (v : View I) → v.kind ≡ Book → v.in_flight ≡ None → v.made < MOST_PASSES → Splits Held id v (counted_up v) (newcomer v)
   admits id v is idle room s kept at =
       let k = at_book caller_of Legal s.words s.views id v kept at is in
       let w = counted_up v in

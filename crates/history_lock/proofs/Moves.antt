@@ -4,6 +4,7 @@ use mathlib.Core.List.{IsPrefix}
 use mathlib.Core.Option.{some, some-injective, some-ne-none}
 use lib.ListN.{get_elem?}
 use Rattle.atomic_table.proofs.Lists.{at_longer, set_here, set_else}
+use Rattle.history_lock.specs.declared.machine.TheConstants.{MOST_PASSES}
 use Rattle.history_lock.specs.declared.view.Kind.TheVariants.{Book, Caller}
 use Rattle.history_lock.specs.declared.view.View.{View}
 use Rattle.history_lock.specs.Rule.{FitsBook, Reaches, RuleAt, MeetsRule}
@@ -34,7 +35,7 @@ module _ {I : Type 0} (caller_of : I → ℕ) (Legal : List I → Type 0) where
       → w.kind ≡ Book
       → IsPrefix v.history w.history
       → v.made ≤ w.made
-      → w.made ≤ 1048576
+      → w.made ≤ MOST_PASSES
       → ((k : ℕ) (e : I) → get_elem? w.history k ≡ some e → caller_of e < w.made)
       → ((known : Option EndCause) (h : List I) → KnowsEnd known h v.ended v.history → KnowsEnd known h w.ended w.history)
       → FitsBook caller_of Legal b w b w

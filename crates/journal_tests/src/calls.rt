@@ -1,15 +1,12 @@
-// The calls that tests make of the authority, of a state and of texts, without what they promise. A
-// test compares what they answer, and has no use for the definitions by which they answer.
+// The calls that tests make of the authority and of a desk, without what they promise. A test compares
+// what they answer, and has no use for the definitions by which they answer.
 ghost use Rattle.std.specs.Prelude.{◌≤◌, ◌^◌};
 ghost use Rattle.authority_model.specs.Given.{IsStepped};
-ghost use Rattle.authority_model.specs.Small.{IsShort};
 
 use authority_core::{Authority, Batch, CollectStepRefused, LoadStepRefused, StepRefused};
-use authority_model::{Decision, Entry, Event, Loaded, OutputList};
-use journal_answers::outputs;
-use journal_state::State;
+use authority_desk::Desk;
+use authority_model::{Decision, Entry, Event, Loaded};
 use pk_types::{NoMemory, Subject, Text};
-use std::alloc::Global;
 
 /// Hands an event in, with salt 0, and gives what it is answered.
 pub fn step(
@@ -54,28 +51,24 @@ pub fn decide(authority: &Authority, subject: &Subject, id: &Text) -> Option<Dec
     authority.decide(0, subject, id)
 }
 
-/// Carries a state on by an entry without a load.
-pub fn carry(
-    state: &mut State,
-    in_force: &Loaded,
-    place: u64,
-    entry: &Entry,
-) -> Result<(), NoMemory>
-    requires entries { IsShort in_force.now.policy.entries }
-    requires moment { entry.now.moment ≤ 2 ^ 62 }
+/// Hands an event of connection 1 in to a desk, at moment 1 and with salt 0, and gives its entry.
+pub fn desk_step(desk: &mut Desk, event: Event) -> Result<Entry, NoMemory>
+    requires event { IsStepped event }
 {
-    state.after(in_force, place, entry, None)
+    desk.step(1, 1, 0, event).map_err(|_| NoMemory)
 }
 
-/// The outputs of an event of a caller at moment 1, with salt 0, over a load.
-pub fn answers(
-    alloc: Global,
-    state: &State,
-    in_force: &Loaded,
-    caller: u32,
-    event: &Event,
-) -> Result<OutputList, NoMemory>
-    requires entries { IsShort in_force.now.policy.entries }
-{
-    outputs(alloc, state, in_force, 0, caller, 1, 0, event)
+/// Hands a Collect in to a desk: caller 9 takes the outputs to connection 1.
+pub fn desk_collect(desk: &mut Desk) -> Result<Entry, NoMemory> {
+    desk.collect(9, 1).map_err(|_| NoMemory)
+}
+
+/// The entry, and the output in it, of an output to a connection.
+pub fn place(desk: &Desk, to: u32, number: u32) -> Option<(u64, u32)> {
+    desk.peers().place(to, number)
+}
+
+/// How many of the outputs to a connection a caller has collected.
+pub fn collected(desk: &Desk, caller: u32, of: u32) -> u32 {
+    desk.peers().collected(caller, of)
 }

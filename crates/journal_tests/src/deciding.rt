@@ -1,12 +1,9 @@
-// Decisions without an entry, and a call without a serial.
-ghost use Rattle.std.specs.Prelude.{◌<◌, IfOk};
-ghost use Rattle.authority_model.specs.Given.{IsStepped};
+// Decisions without an entry.
+ghost use Rattle.std.specs.Prelude.{◌<◌};
 
-use crate::calls::{decide, load, step};
+use crate::calls::{decide, load};
 use authority_core::{Authority, Limits};
-use authority_model::{
-    Action, ActionList, Call, Decision, Event, Loaded, Process, ProcessList, RuleSource,
-};
+use authority_model::{Action, ActionList, Decision, Loaded, Process, ProcessList, RuleSource};
 use pk_types::{Category, Implicit, List, NoMemory, Subject, Text};
 use std::alloc::Global;
 use std::test::Fail;
@@ -85,23 +82,6 @@ fn some_load(alloc: Global) -> Result<Loaded, NoMemory> {
     Ok(loaded)
 }
 
-fn check(alloc: Global, serial: u32, pid: u32, start: u64, id: &str) -> Result<Event, NoMemory>
-    ensures stepped { IfOk result IsStepped }
-{
-    let action = text(alloc, id)?;
-    Ok(Event::Call {
-        serial,
-        quiet: false,
-        call: Call::Check {
-            subject: Subject::Process { pid, start },
-            action,
-            details: List::new(alloc),
-            flags: 0,
-            cancel: Text::new(alloc),
-        },
-    })
-}
-
 /// Whether the first entry is a load, at moment 5.
 fn is_started(authority: &mut Authority, alloc: Global) -> Result<bool, NoMemory> {
     let loaded = some_load(alloc)?;
@@ -154,50 +134,5 @@ fn decided_from_start(alloc: Global) -> Result<(bool, Option<(u32, &'static str)
 #[test]
 fn decisions_are_told(rt: HostRuntime) -> Result<(), Fail> {
     assert_eq!(rt; decided_from_start(rt.alloc())?, (true, None));
-    Ok(())
-}
-
-/// How many outputs the entry at a place has.
-fn outputs_at(authority: &Authority, place: u64) -> Option<usize> {
-    Some(authority.entry(place)?.outputs.len())
-}
-
-/// How many outputs a check of connection 1 with this serial has.
-fn outputs_of_check(
-    authority: &mut Authority,
-    alloc: Global,
-    serial: u32,
-) -> Result<Option<usize>, NoMemory> {
-    let event = check(alloc, serial, 51, 8, "a.yes")?;
-    Ok(match step(authority, 1, 3, event).ok() {
-        Some(place) => outputs_at(authority, place),
-        None => None,
-    })
-}
-
-/// Whether the authority starts, and how many outputs two checks have, the first of which has no
-/// serial.
-fn checked(
-    authority: &mut Authority,
-    alloc: Global,
-) -> Result<(bool, [Option<usize>; 2]), NoMemory> {
-    let started = is_started(authority, alloc)?;
-    let connected = step(authority, 1, 3, Event::Connect { uid: 1000 });
-    let is_connected = connected.ok().is_some();
-    let without = outputs_of_check(authority, alloc, 0)?;
-    let with = outputs_of_check(authority, alloc, 1)?;
-    Ok((started && is_connected, [without, with]))
-}
-
-/// The same of a new authority.
-fn checked_from_start(alloc: Global) -> Result<(bool, [Option<usize>; 2]), NoMemory> {
-    let mut authority = Authority::start(alloc, LIMITS)?;
-    checked(&mut authority, alloc)
-}
-
-#[test]
-fn a_call_without_a_serial_is_not_answered(rt: HostRuntime) -> Result<(), Fail> {
-    let wanted = (true, [Some(0), Some(1)]);
-    assert_eq!(rt; checked_from_start(rt.alloc())?, wanted);
     Ok(())
 }

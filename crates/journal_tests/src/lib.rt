@@ -1,5 +1,6 @@
 //! Tests of what no program shows of a journal: collecting, its limits, the decision without an entry,
-//! the Stop of the loader, audits of a closed journal, and copies of the types that it is made of.
+//! a desk with its Stop of the loader, audits of a closed journal, and copies of the types that it is
+//! made of.
 #![tactic(auto)]
 
 #[cfg(test)]
@@ -7,16 +8,12 @@ mod calls;
 #[cfg(test)]
 mod collecting;
 #[cfg(test)]
-mod collections;
-#[cfg(test)]
 mod copies;
 #[cfg(test)]
-mod costs;
-#[cfg(test)]
 mod deciding;
+#[cfg(test)]
+mod desks;
 #[cfg(test)]
 mod full;
 #[cfg(test)]
 mod scans;
-#[cfg(test)]
-mod stopping;

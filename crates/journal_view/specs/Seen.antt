@@ -41,3 +41,7 @@ pub record IsSeenOf (past : List Item) (s : Seen) : Type 0 where
   pub challenges_are : s.challenges ≡ pending past
   pub loaded_is : s.loaded ≡ loaded_of past
   pub counts_are : s.counts ≡ counts_of past
+
+-- what holds of each history of which this is told
+abbrev pub ForHistory : Seen → (List Item → Type 0) → Type 0
+ForHistory s P = (past : List Item) → IsSeenOf past s → P past

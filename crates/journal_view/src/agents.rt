@@ -16,7 +16,7 @@ use pk_types::Text;
 fn agent_of_session<'a, V: JournalView>(view: &'a V, id: Option<&Text>) -> Option<&'a Agent>
     ensures agent { option_copied result ≡ option_and_then (λ s. agent_of (Key.Session s.id s.uid) (V.seen view.now).agents) (option_and_then (session_row (V.seen view.now).loaded.world) (option_copied id.entry)) }
 {
-    let row = view.loaded().world.session(id?)?;
+    let row = view.session(id?)?;
     view.agent_of(KeyRef::Session {
         id: &row.id,
         uid: row.uid,

@@ -1,6 +1,8 @@
 // What is looked up of a history.
 use crate::counts::ViewCounts;
-use authority_model::{Action, Agent, GrantRow, KeyRef, Loaded, Pending, RuleSource};
+use authority_model::{
+    Action, Agent, GrantRow, KeyRef, Loaded, Pending, Process, RuleSource, Session,
+};
 use entry_changes::Peer;
 use pk_types::{Category, Implicit, Text};
 
@@ -18,6 +20,7 @@ pub trait JournalView {
     ghost use Rattle.authority_model.specs.Keys.{key_seen};
     ghost use Rattle.authority_model.specs.Rules.{action_of, implicit as implicit_by};
     ghost use Rattle.authority_model.specs.Small.{IsShort};
+    ghost use Rattle.authority_model.specs.Worlds.{process_row, session_row};
     ghost use Rattle.journal_view.specs.Seen.{Seen};
 
     // What it tells. Whose history this is, a caller says by IsSeenOf.
@@ -30,6 +33,10 @@ pub trait JournalView {
     /// The live connection at a place, counted from 0, among them by rising number.
     fn live(&self, i: usize) -> Option<u32>
         ensures number { result ≡ slice_get (seen self.now).live i };
+
+    /// How many connections are live.
+    fn live_len(&self) -> usize
+        ensures length { result ≡ length (seen self.now).live };
 
     /// How many outputs went to a connection.
     fn sent_count(&self, caller: u32) -> u32
@@ -83,6 +90,14 @@ pub trait JournalView {
     /// The load in force.
     fn loaded(&self) -> &Loaded
         ensures same { result.now ≡ (seen self.now).loaded };
+
+    /// The process with this pid and start in the world in force: its first row.
+    fn process(&self, pid: u32, start: u64) -> Option<&Process>
+        ensures first { option_copied result ≡ process_row (seen self.now).loaded.world pid start };
+
+    /// The session with this id in the world in force: its first row.
+    fn session(&self, id: &Text) -> Option<&Session>
+        ensures first { option_copied result ≡ session_row (seen self.now).loaded.world id.now };
 
     /// The action of an id in the policy in force: the first that has it.
     fn action(&self, id: &Text) -> Option<&Action>

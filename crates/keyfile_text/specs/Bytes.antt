@@ -1,11 +1,7 @@
 -- Blanks, cuts, and bytes that may stand in a text.
 use Rattle.std.specs.Prelude.{ℕ, ◌≢◌, ◌==◌, Bool, ◌||◌, ◌&&◌, List, [], ◌∷◌, length, Option, Some, None, if◌then◌else◌}
 use Rattle.std.specs.Str.{IsUtf8}
-use Rattle.pk_types.specs.Text.{NoZero}
-
--- a space, a tab or a LF
-abbrev pub is_blank_of : ℕ → Bool
-is_blank_of b = b == 32 || b == 9 || b == 10
+use Rattle.pk_types.specs.Text.{NoZero, is_blank}
 
 abbrev pub is_empty : List ℕ → Bool
 is_empty bytes = length bytes == 0
@@ -13,11 +9,11 @@ is_empty bytes = length bytes == 0
 -- the bytes without the blanks at their start, at their end, and at both
 abbrev pub trim_front : List ℕ → List ℕ
 trim_front [] = []
-trim_front (b ∷ bytes) = if is_blank_of b then trim_front bytes else b ∷ bytes
+trim_front (b ∷ bytes) = if is_blank b then trim_front bytes else b ∷ bytes
 
 abbrev pub trim_back : List ℕ → List ℕ
 trim_back [] = []
-trim_back (b ∷ bytes) = if is_blank_of b && is_empty (trim_back bytes) then [] else b ∷ trim_back bytes
+trim_back (b ∷ bytes) = if is_blank b && is_empty (trim_back bytes) then [] else b ∷ trim_back bytes
 
 unfoldable pub trim : List ℕ → List ℕ
 trim bytes = trim_back (trim_front bytes)

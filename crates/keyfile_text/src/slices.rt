@@ -1,15 +1,9 @@
 // Parts of bytes: trimmed, without an end, a line.
 ghost use Rattle.std.specs.Prelude.{◌≡◌, ◌+◌, ◌<◌, ◌≤◌, ◌==◌, [], ◌∷◌, length, IfNone, IfSome};
-ghost use Rattle.keyfile_text.specs.Bytes.{is_blank_of, trim_front, trim_back, trim, IsClean};
+ghost use Rattle.keyfile_text.specs.Bytes.{trim_front, trim_back, trim, IsClean};
 ghost use Rattle.keyfile_text.specs.Lines.{raw_lines, without_end};
 
-use pk_types::cut;
-
-fn is_blank(b: u8) -> bool
-    ensures blank { result ≡ is_blank_of b }
-{
-    b == b' ' || b == b'\t' || b == b'\n'
-}
+use pk_types::{cut, is_blank};
 
 fn trim_start(bytes: &[u8]) -> &[u8]
     ensures trimmed { result.now ≡ trim_front bytes.now }

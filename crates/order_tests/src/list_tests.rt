@@ -1,43 +1,7 @@
-// Lists that grow and shrink, room that is taken first, and copies.
-use pk_types::{ActionId, List, NoMemory, Reserved, Text};
+// Lists that grow and shrink, and room that is taken first.
+use pk_types::{List, NoMemory, Reserved};
 use std::alloc::Global;
 use std::test::Fail;
-use test_values::{action_id, text};
-
-/// Whether a copy and a text of known bytes are the same as the text.
-fn are_one(text: &Text, known: &Text, copy: &Text) -> bool {
-    known.bytes() == text.bytes() && copy.is_same(text)
-}
-
-/// Whether a text is copied, and made of its own bytes.
-fn is_text_copied(alloc: Global, text: &Text) -> Result<bool, NoMemory> {
-    let known = Text::of_known(alloc, text.bytes())?;
-    let copy = text.try_copy()?;
-    Ok(are_one(text, &known, &copy))
-}
-
-/// Whether the id of an action is copied.
-fn is_id_copied(id: &ActionId) -> Result<bool, NoMemory> {
-    let copy = id.try_copy()?;
-    Ok(copy.text().bytes() == id.bytes())
-}
-
-/// Whether a text and the id of an action are copied, and whether a new text is empty.
-fn copies_told(alloc: Global) -> Result<[bool; 3], NoMemory> {
-    let id = action_id(alloc, "a.b")?;
-    let text = text(alloc, "caf\u{e9}")?;
-    Ok([
-        is_text_copied(alloc, &text)?,
-        is_id_copied(&id)?,
-        Text::new(alloc).bytes().is_empty(),
-    ])
-}
-
-#[test]
-fn copies_are_the_same(rt: HostRuntime) -> Result<(), Fail> {
-    assert_eq!(rt; copies_told(rt.alloc())?, [true; 3]);
-    Ok(())
-}
 
 /// Whether a new list has no item.
 fn new_list_is_empty(alloc: Global) -> bool {

@@ -6,14 +6,14 @@ use Rattle.std.proofs.lemmas.Map.Entries.{none_past_head}
 use Rattle.std.proofs.lemmas.Map.Keys.{IsDistinct-tail}
 use Rattle.std.proofs.Math.Seq.{take-suc}
 use Rattle.std.specs.Cmp.{nat_eq_equiv}
-use Rattle.std.specs.Prelude.{if◌then◌else◌, ◌⊎◌, IsSome, nat_eq, slice_get, unwrap_or}
+use Rattle.std.specs.Prelude.{if◌then◌else◌, ◌⊎◌, IsSome, nat_eq, option_map, slice_get, unwrap_or}
 use Rattle.std.specs.List.{IsDistinct}
 use Rattle.std.specs.Option.{option_map_or}
 use Rattle.std.specs.Map.{keys_of, lookup, set_value}
 use Rattle.indexmap.specs.IndexMap.{IndexMap, WritesThrough}
 use Rattle.pk_types.specs.Roomy.{Roomy}
 use Rattle.peer_book.specs.declared.places.OutputPlace.{OutputPlace}
-use Rattle.peer_book.specs.Places.{KeepsPlaces, PlaceRows, CanTake, count_in, place_at, places_in, places_of, room_in, shown, with_row}
+use Rattle.peer_book.specs.Places.{KeepsPlaces, PlaceRows, CanTake, count_in, pair_of, place_at, places_in, places_of, room_in, shown, with_row}
 
 -- one change after another
 pub kept_both : (a b c : PlaceRows) → KeepsPlaces a b → KeepsPlaces b c → KeepsPlaces a c
@@ -150,8 +150,8 @@ can_more old new tally rest r m kept can so_far c n found = go (so_far c n found
 abbrev pub items_of : Option (Roomy OutputPlace) → List OutputPlace
 items_of o = option_map_or (λ row. row.items) o []
 
--- the k-th of some places, counted from 1
-pub placed_at : (places : List OutputPlace) (k : ℕ) (found : Option OutputPlace) → 0 < k → found ≡ slice_get places (k - 1) → found ≡ place_at places k
+-- the two numbers of the k-th of some places, counted from 1
+pub placed_at : (places : List OutputPlace) (k : ℕ) (found : Option (ℕ × ℕ)) → 0 < k → found ≡ option_map pair_of (slice_get places (k - 1)) → found ≡ option_map pair_of (place_at places k)
 placed_at places k found positive is =
     let counted : (k == 0) ≡ false = grind (arith, nat_tests) in
-    is ∙ sym (ap (λ b. if b then None else slice_get places (k - 1)) counted)
+    is ∙ sym (ap (λ b. option_map pair_of (if b then None else slice_get places (k - 1))) counted)

@@ -3,7 +3,6 @@ use Rattle.std.specs.Prelude.{◌≡◌, ℕ, ◌+◌, ◌<◌, ◌^◌, ⊤, Li
 use Rattle.authority_model.specs.declared.journal.Entry.{Entry}
 use Rattle.authority_model.specs.declared.message.Output.{Output}
 use Rattle.entry_changes.specs.declared.peer.Peer.{Peer}
-use Rattle.authority_model.specs.declared.process_id.ProcessId.{ProcessId}
 use Rattle.authority_model.specs.declared.world.World.{World}
 use Rattle.authority_model.specs.declared.journal.Item.{Item}
 use Rattle.authority_model.specs.Items.{sent as sent_count, world_of}
@@ -13,7 +12,7 @@ use Rattle.authority_model.specs.Peers.{live_connections}
 use Rattle.authority_model.specs.Sent.{collected, sent_to}
 use Rattle.peer_book.specs.declared.places.OutputPlace.{OutputPlace}
 use Rattle.peer_book.specs.Rows.{row_in}
-use Rattle.peer_book.specs.Places.{CanTake, PlaceRows, count_in, output_at, places_in, places_of}
+use Rattle.peer_book.specs.Places.{CanTake, PlaceRows, count_in, output_at, output_shown, places_in, places_of}
 use Rattle.peer_book.specs.Counts.{collected_in}
 
 -- What the table tells: what is known of each connection, the live ones by rising number, where the outputs to each stand, how many of them each other one has collected, and how many entries there are; and the receivers of the outputs of the entry that is staged.
@@ -29,7 +28,7 @@ pub record Peers : Type 0 where
 pub record IsPeersOf (past : List Item) (t : Peers) : Type 0 where
   pub rows_are : (c : ℕ) → row_in t.rows c ≡ known past c
   pub live_are : t.live ≡ live_connections past
-  pub places_are : (c : ℕ) → map (output_at past) (places_of t.places c) ≡ map Some (sent_to past c)
+  pub places_are : (c : ℕ) → map (output_shown past) (places_of t.places c) ≡ map Some (sent_to past c)
   pub sent_are : (c : ℕ) → length (places_of t.places c) ≡ sent_count past c
   pub collected_are : (by c : ℕ) → collected_in t.counts by c ≡ collected past by c
   pub entries_are : t.entries ≡ length past
@@ -38,12 +37,8 @@ pub record IsPeersOf (past : List Item) (t : Peers) : Type 0 where
 abbrev pub live_uid : Peer → Option ℕ
 live_uid row = if row.departed then None else Some row.uid
 
--- the process that a live connection with this row announced
-abbrev pub live_announced : Peer → Option ProcessId
-live_announced row = if row.departed then None else row.announced
-
--- the place of an output of this number to a connection, counted from 1, shows that output in each history that the table stands for
-abbrev pub ShowsOutput : Peers → ℕ → ℕ → Option OutputPlace → Type 0
+-- in each history that the table stands for, the output to a connection that has this number among those that it was sent, counted from 1, stands at this place
+abbrev pub ShowsOutput : Peers → ℕ → ℕ → Option (ℕ × ℕ) → Type 0
 ShowsOutput t c k place = (past : List Item) → IsPeersOf past t → 0 < k → option_and_then (output_at past) place ≡ slice_get (sent_to past c) (k - 1)
 
 -- who the outputs are sent to

@@ -1,5 +1,5 @@
 -- Where the outputs to each connection stand in the journal.
-use Rattle.std.specs.Prelude.{◌≡◌, ℕ, ◌+◌, ◌-◌, ◌==◌, ◌≤◌, ◌<◌, ◌^◌, if◌then◌else◌, List, [], ◌∷◌, ◌++◌, Option, None, length, nat_eq, slice_get, unwrap_or}
+use Rattle.std.specs.Prelude.{◌≡◌, ℕ, ◌+◌, ◌-◌, ◌==◌, ◌≤◌, ◌<◌, ◌^◌, if◌then◌else◌, List, [], ◌∷◌, ◌++◌, Option, None, length, nat_eq, option_and_then, reverse, slice_get, unwrap_or}
 use Rattle.std.specs.Option.{option_map_or}
 use Rattle.std.specs.Map.{lookup}
 use Rattle.pk_types.specs.Roomy.{Roomy}
@@ -65,10 +65,17 @@ tally_in tally c = unwrap_or (lookup (nat_eq c) tally) 0
 abbrev pub TalliesOne : ℕ → List (ℕ × ℕ) → List (ℕ × ℕ) → Type 0
 TalliesOne receiver old new = (c : ℕ) → tally_in new c ≡ tally_in old c + (if receiver == c then 1 else 0)
 
--- the output at a place of a history
-abbrev pub output_at : List Item → OutputPlace → Option Output
-output_at [] p = None
-output_at (i ∷ past) p = if p.entry == length past then slice_get i.entry.outputs p.output else output_at past p
+-- the output at a place of a history: the first number is the place of its entry in the journal, and the second its own among the entry's outputs, both counted from 0
+abbrev pub output_at : List Item → ℕ × ℕ → Option Output
+output_at past p = option_and_then (λ i. slice_get i.entry.outputs p.1) (slice_get (reverse past) p.0)
+
+-- the two numbers of a place
+abbrev pub pair_of : OutputPlace → ℕ × ℕ
+pair_of p = (p.entry, p.output)
+
+-- the output of a history that a place shows
+abbrev pub output_shown : List Item → OutputPlace → Option Output
+output_shown past p = output_at past (pair_of p)
 
 -- the places of the outputs to a connection among those of an entry, where the first of them has this number
 abbrev pub places_to : ℕ → ℕ → ℕ → List Output → List OutputPlace

@@ -1,16 +1,18 @@
 // The table of connections, and the entry that is staged.
 ghost use Rattle.std.specs.Prelude.{◌≡◌, ◌<◌, ◌^◌, [], ℕ, None, Some, IfOk, OnErr, OnOk, false, length, option_and_then, slice_get};
-ghost use Rattle.std.specs.Option.{option_map_or};
+ghost use Rattle.std.specs.Option.{option_map, option_map_or};
+ghost use Rattle.authority_model.specs.Subjects.{process_id};
+ghost use Rattle.entry_changes.specs.Known.{live_announced};
 ghost use Rattle.indexmap.specs.IndexMap.{spare};
 ghost use Rattle.peer_book.specs.Rows.{row_in};
-ghost use Rattle.peer_book.specs.Places.{CanTake, KeepsPlaces, count_in, place_at, places_in, places_of};
+ghost use Rattle.peer_book.specs.Places.{CanTake, KeepsPlaces, count_in, pair_of, place_at, places_in, places_of};
 ghost use Rattle.peer_book.specs.Counts.{collected_in};
-ghost use Rattle.peer_book.specs.Book.{IsPeersOf, ShowsOutput, StandsAfter, live_announced, live_uid, receivers as receivers_among, staged_for};
+ghost use Rattle.peer_book.specs.Book.{IsPeersOf, ShowsOutput, StandsAfter, live_uid, receivers as receivers_among, staged_for};
 
 use crate::counts::{Counts, carry_counts, collected};
-use crate::places::{OutputPlace, PlaceRows, count, fill, place, widen};
+use crate::places::{PlaceRows, count, fill, place, widen};
 use crate::rows::PeerRows;
-use authority_model::{Entry, Output, ProcessId, World};
+use authority_model::{Entry, Output, World};
 use entry_changes::Peer;
 use indexmap::IndexMap;
 use pk_types::{List, MAX_NUMBER, NoMemory};
@@ -107,14 +109,12 @@ impl PeerBook {
         }
     }
 
-    /// The process that a live connection announced.
-    pub fn announced(&self, caller: u32) -> Option<ProcessId>
-        ensures announced { result ≡ option_and_then live_announced (row_in self.now.rows caller) }
+    /// The pid and the start of the process that a live connection announced.
+    pub fn announced(&self, caller: u32) -> Option<(u32, u64)>
+        ensures announced { option_map process_id result ≡ option_and_then live_announced (row_in self.now.rows caller) }
     {
-        match self.peers.row(caller) {
-            Some(row) if !row.departed => row.announced,
-            _ => None,
-        }
+        let process = self.peers.row(caller)?.live_announced()?;
+        Some((process.pid, process.start))
     }
 
     /// Whether a connection connected and is no longer live.
@@ -135,9 +135,10 @@ impl PeerBook {
     }
 
     /// Where the output to a connection stands that has this number among those that it was sent,
-    /// counted from 1. `None` for 0, and where it was sent fewer.
-    pub fn place(&self, caller: u32, number: u32) -> Option<OutputPlace>
-        ensures place { result ≡ place_at (places_of self.now.places caller) number }
+    /// counted from 1: the place of its entry in the journal, and its own among the outputs of the
+    /// entry, both counted from 0. `None` for the number 0, and where fewer were sent.
+    pub fn place(&self, caller: u32, number: u32) -> Option<(u64, u32)>
+        ensures place { result ≡ option_map pair_of (place_at (places_of self.now.places caller) number) }
         ensures output { ShowsOutput self.now caller number result }
     {
         place(&self.places, caller, number)
@@ -155,6 +156,13 @@ impl PeerBook {
         ensures number { result ≡ slice_get self.now.live i }
     {
         self.peers.nth_live(i)
+    }
+
+    /// How many connections are live.
+    pub fn live_len(&self) -> usize
+        ensures length { result ≡ length self.now.live }
+    {
+        self.peers.live_len()
     }
 
     /// How many entries the table stands for.

@@ -14,4 +14,3 @@ mod places;
 mod rows;
 
 pub use book::PeerBook;
-pub use places::OutputPlace;

@@ -1,5 +1,5 @@
 // The numbers of the live connections, by rising number.
-ghost use Rattle.std.specs.Prelude.{◌≡◌, ◌<◌, ◌==◌, [], not, filter, slice_get, OnOk};
+ghost use Rattle.std.specs.Prelude.{◌≡◌, ◌<◌, ◌==◌, [], not, filter, length, slice_get, OnOk};
 ghost use Rattle.authority_model.specs.Peers.{insert_rising};
 
 use pk_types::NoMemory;
@@ -44,6 +44,13 @@ impl Rising {
         ensures rising { IsStrictlySortedBy nat_cmp self.now.items }
     {
         self.numbers.get(i).copied()
+    }
+
+    /// How many numbers there are.
+    pub fn len(&self) -> usize
+        ensures length { result ≡ length self.now.items }
+    {
+        self.numbers.len()
     }
 
     /// Takes room for one more number.

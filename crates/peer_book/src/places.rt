@@ -1,8 +1,8 @@
 // Where the outputs to each connection stand in the journal.
-ghost use Rattle.std.specs.Prelude.{◌≡◌, ◌≤◌, ◌<◌, ◌+◌, ◌^◌, ◌==◌, if◌then◌else◌, ◌∷◌, ◌++◌, [], ℕ, List as TheList, IfOk, IsSome, OnOk, Some, length, nat_eq, slice_get};
+ghost use Rattle.std.specs.Prelude.{◌≡◌, ◌≤◌, ◌<◌, ◌+◌, ◌^◌, ◌==◌, if◌then◌else◌, ◌∷◌, ◌++◌, [], ℕ, List as TheList, IfOk, IsSome, OnOk, Some, length, nat_eq, option_map, slice_get};
 ghost use Rattle.std.specs.Map.{lookup};
 ghost use Rattle.authority_model.specs.Items.{count_to};
-ghost use Rattle.peer_book.specs.Places.{CanTake, KeepsPlaces, ShowsPlaces, TalliesOne, count_in, place_at, places_in, places_to, room_in, tally_in};
+ghost use Rattle.peer_book.specs.Places.{CanTake, KeepsPlaces, ShowsPlaces, TalliesOne, count_in, pair_of, place_at, places_in, places_to, room_in, tally_in};
 
 use authority_model::Output;
 use indexmap::IndexMap;
@@ -38,17 +38,18 @@ pub fn count(rows: &PlaceRows, caller: u32) -> usize
     }
 }
 
-/// The place of a row with this number, counted from 0.
-fn nth(row: &Reserved<OutputPlace>, i: usize) -> Option<OutputPlace>
-    ensures place { result ≡ slice_get row.now.items i }
+/// The two numbers of the place in a row with this number, counted from 0.
+fn nth(row: &Reserved<OutputPlace>, i: usize) -> Option<(u64, u32)>
+    ensures place { result ≡ option_map pair_of (slice_get row.now.items i) }
 {
-    row.as_slice().get(i).copied()
+    let place = row.as_slice().get(i)?;
+    Some((place.entry, place.output))
 }
 
 /// Where the output to a connection stands that has this number among those that it was sent,
-/// counted from 1. `None` for 0, and where it was sent fewer.
-pub fn place(rows: &PlaceRows, caller: u32, number: u32) -> Option<OutputPlace>
-    ensures place { result ≡ place_at (places_in rows.now.entries caller) number }
+/// counted from 1: the two numbers of its place. `None` for the number 0, and where fewer were sent.
+pub fn place(rows: &PlaceRows, caller: u32, number: u32) -> Option<(u64, u32)>
+    ensures place { result ≡ option_map pair_of (place_at (places_in rows.now.entries caller) number) }
     ensures shown { ShowsPlaces rows.now.entries }
 {
     // As in `count`.

@@ -1,5 +1,5 @@
 // What is known of each connection, and which are live.
-ghost use Rattle.std.specs.Prelude.{◌≡◌, ◌<◌, ◌==◌, ℕ, Some, [], slice_get, cond, OnOk};
+ghost use Rattle.std.specs.Prelude.{◌≡◌, ◌<◌, ◌==◌, ℕ, Some, [], slice_get, cond, length, OnOk};
 ghost use Rattle.indexmap.specs.IndexMap.{spare};
 ghost use Rattle.peer_book.specs.Rows.{CarriesRows, IsLiveOf, row_in};
 
@@ -69,6 +69,13 @@ impl PeerRows {
         ensures number { result ≡ slice_get self.now.live i }
     {
         self.live.nth(i)
+    }
+
+    /// How many connections are live.
+    pub fn live_len(&self) -> usize
+        ensures length { result ≡ length self.now.live }
+    {
+        self.live.len()
     }
 
     /// Takes room for one more connection. The rows stay.

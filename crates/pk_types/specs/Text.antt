@@ -1,5 +1,5 @@
 -- Which bytes are a text.
-use Rattle.std.specs.Prelude.{◌≡◌, ◌≢◌, ℕ, ◌==◌, nat_lt, List, [], ◌∷◌, length, take, Option, None, Some, Result, Ok, Err, position, if◌then◌else◌}
+use Rattle.std.specs.Prelude.{◌≡◌, ◌≢◌, ℕ, ◌==◌, Bool, ◌||◌, nat_lt, List, [], ◌∷◌, length, take, Option, None, Some, Result, Ok, Err, position, if◌then◌else◌}
 use Rattle.std.specs.Str.Lossy.{utf8_valid_len}
 use Rattle.pk_types.specs.declared.text.TheConstants.{MAX_TEXT}
 use Rattle.pk_types.specs.declared.text.TextFault.{TextFault}
@@ -41,3 +41,7 @@ TextFaultIs fault due = due ≡ Some fault
 abbrev pub TextIs : List ℕ → Result (List ℕ) TextFault → Type 0
 TextIs bytes (Ok text) = (text ≡ bytes) × IsText bytes
 TextIs bytes (Err fault) = TextFaultIs fault (text_fault_of bytes)
+
+-- whether a byte is a space, a tab or an LF
+abbrev pub is_blank : ℕ → Bool
+is_blank b = (b == 32) || (b == 9) || (b == 10)

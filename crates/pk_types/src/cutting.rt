@@ -1,9 +1,17 @@
 // Bytes cut at a separator, once or at each place where it stands.
 ghost use Rattle.std.specs.Prelude.{◌≡◌, ◌≢◌, ◌<◌, ◌≤◌, ℕ, length, map, slice_index, IfSome, IfNone, IfOk};
 ghost use Rattle.pk_types.specs.Pieces.{Lacks, IsCut, pieces_of, lines_of};
+ghost use Rattle.pk_types.specs.Text as text_of;
 
 use crate::NoMemory;
 use std::alloc::Global;
+
+/// Whether a byte is a space, a tab or an LF.
+pub fn is_blank(b: u8) -> bool
+    ensures blank { result ≡ text_of.is_blank b }
+{
+    b == b' ' || b == b'\t' || b == b'\n'
+}
 
 /// The place of the first separator, or else the length.
 fn place(bytes: &[u8], separator: u8) -> usize

@@ -16,7 +16,7 @@ mod values;
 
 pub use action_id::{ActionId, IdFault};
 pub use copies::TryCopy;
-pub use cutting::{cut, lines, pieces};
+pub use cutting::{cut, is_blank, lines, pieces};
 pub use decimals::{MAX_NUMBER, number, number_up_to};
 pub use list::{List, NoMemory};
 pub use reserved::Reserved;

@@ -1,7 +1,7 @@
 //! The program `pkcheck`, over the sockets of the system.
 //!
 //! What a check does is proved of `pkcheck_tool::pkcheck`; this program passes the words and standard
-//! output on, and tells how it ended.
+//! output on, and tells on standard error how it ended.
 #![tactic(auto)]
 
 ghost use Rattle.pk_outside.specs.Allowing.{IsFree};
@@ -14,8 +14,8 @@ use pkcheck_tool::{CheckStatus, pkcheck};
 use rand::make_rng;
 use rand::rngs::StdRng;
 use real_outside::{SocketStation, WriteSink};
-use std::io;
 use std::process::ExitCode;
+use std::{io, str};
 
 /// The exit code where the system gives no random words. No status has it.
 const NO_RANDOM_WORDS: u8 = 71;
@@ -38,9 +38,9 @@ Options, each alone:
 Standard output has the details of the reply, each as a line KEY=VALUE, or the name of the error.
 Exit status: 0 authorized, 1 not authorized, 2 not without a challenge, 3 the challenge was
 dismissed, 126 the reply is an error, 127 usage or a fault of the station, the link or the output,
-70 out of memory, 71 the system gives no random words. 70, 71 and 127 are told on standard error.
+70 out of memory, 71 the system gives no random words. Any but 0 is told on standard error.
 ",
-    version: "pkcheck 0.105.0\n",
+    version: "pkcheck 0.105.0 (proved 0.2.0)\n",
 };
 
 /// Tells on standard error what is wrong with the words.
@@ -53,8 +53,39 @@ fn tell_fault<R: Eprint + AllocGlobal>(rt: &R, words: &[Text]) {
     }
 }
 
+/// Tells on standard error that the handshake failed, and at which door.
+fn tell_shake<R: Eprint + AllocGlobal>(rt: &R, words: &[Text], status: CheckStatus) {
+    let _ = eprintln!(rt; "{status}");
+    let Ok(plan) = read_check(rt.alloc(), words) else {
+        return;
+    };
+    let path = str::from_utf8(plan.path.bytes()).unwrap_or("");
+    let _ = eprintln!(rt; "{path} is not a door for the user {}", plan.uid);
+}
+
+/// Writes a line to standard error.
+fn say<R: Eprint>(rt: &R, line: &str) {
+    let _ = eprintln!(rt; "{line}");
+}
+
+/// Tells on standard error how a check ended that is not a yes.
+fn tell<R: Eprint + AllocGlobal>(rt: &R, words: &[Text], status: CheckStatus) {
+    match status {
+        CheckStatus::Yes => {}
+        CheckStatus::No => say(rt, "not authorized"),
+        CheckStatus::Challenge => say(rt, "authentication needed"),
+        CheckStatus::Dismissed => say(rt, "the challenge was dismissed"),
+        CheckStatus::Error => say(rt, "the reply is an error"),
+        CheckStatus::Usage => tell_fault(rt, words),
+        CheckStatus::BadShake { .. } => tell_shake(rt, words, status),
+        _ => {
+            let _ = eprintln!(rt; "{status}");
+        }
+    }
+}
+
 /// Does what the words ask.
-fn check<R: Print + Eprint + AllocGlobal + Sync, N: Station>(
+fn check<R: Print + AllocGlobal + Sync, N: Station>(
     rt: &R,
     words: &[Text],
     station: &mut N,
@@ -68,11 +99,7 @@ fn check<R: Print + Eprint + AllocGlobal + Sync, N: Station>(
         };
     }
     let mut output = WriteSink::new(io::writer(rt));
-    let status = pkcheck(rt.alloc(), words, station, &mut output);
-    if status == CheckStatus::Usage {
-        tell_fault(rt, words);
-    }
-    status
+    pkcheck(rt.alloc(), words, station, &mut output)
 }
 
 /// How the program ends where its words could not be read.
@@ -82,21 +109,9 @@ fn without_words<R: Eprint>(rt: &R, refused: WordsRefused) -> CheckStatus {
             TEXTS.tell_usage(rt, "error: a word is not a text");
             CheckStatus::Usage
         }
-        WordsRefused::NoMemory => CheckStatus::NoMemory,
-    }
-}
-
-/// Tells a status that is neither that of a reply nor `Usage` by one line on standard error.
-fn tell<R: Eprint>(rt: &R, status: CheckStatus) {
-    match status {
-        CheckStatus::Yes
-        | CheckStatus::No
-        | CheckStatus::Challenge
-        | CheckStatus::Dismissed
-        | CheckStatus::Error
-        | CheckStatus::Usage => {}
-        _ => {
-            let _ = eprintln!(rt; "{status}");
+        WordsRefused::NoMemory => {
+            let _ = eprintln!(rt; "{}", CheckStatus::NoMemory);
+            CheckStatus::NoMemory
         }
     }
 }
@@ -112,10 +127,13 @@ fn main(rt: HostRuntime) -> ExitCode {
     };
     let mut station = SocketStation::new(&rt, rt.alloc(), random);
     let status = match words(&rt) {
-        Ok(words) => check(&rt, words.as_slice(), &mut station),
+        Ok(words) => {
+            let status = check(&rt, words.as_slice(), &mut station);
+            tell(&rt, words.as_slice(), status);
+            status
+        }
         Err(refused) => without_words(&rt, refused),
     };
-    tell(&rt, status);
     if let Some(refusal) = station.refusal() {
         let _ = eprintln!(rt; "{refusal}");
     }

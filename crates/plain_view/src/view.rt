@@ -3,7 +3,9 @@ ghost use Rattle.std.specs.Prelude.{◌<◌, ◌^◌, length};
 
 use crate::among::{agent_of, count_of_user, grant_named, named, sent_to, serving, with_cookie};
 use crate::rows::{PeerRow, SentRow, peer_of, sent_count};
-use authority_model::{Action, Agent, GrantRow, KeyRef, Loaded, Pending, RuleSource};
+use authority_model::{
+    Action, Agent, GrantRow, KeyRef, Loaded, Pending, Process, RuleSource, Session,
+};
 use entry_changes::Peer;
 use journal_view::{JournalView, ViewCounts};
 use pk_types::{Category, Implicit, Text};
@@ -41,6 +43,10 @@ impl JournalView for PlainView<'_> {
 
     fn live(&self, i: usize) -> Option<u32> {
         self.live.get(i).copied()
+    }
+
+    fn live_len(&self) -> usize {
+        self.live.len()
     }
 
     fn sent_count(&self, caller: u32) -> u32 {
@@ -93,6 +99,14 @@ impl JournalView for PlainView<'_> {
 
     fn loaded(&self) -> &Loaded {
         self.loaded
+    }
+
+    fn process(&self, pid: u32, start: u64) -> Option<&Process> {
+        self.loaded.world.process(pid, start)
+    }
+
+    fn session(&self, id: &Text) -> Option<&Session> {
+        self.loaded.world.session(id)
     }
 
     fn action(&self, id: &Text) -> Option<&Action> {

@@ -10,4 +10,5 @@ mod places;
 mod rules;
 mod values;
 
-pub use values::implicit;
+pub use rules::{Rule, matches_at};
+pub use values::{implicit, value_by};

@@ -27,7 +27,7 @@ fn is_in_any(globs: &[Text], text: &Text) -> bool
 
 /// Whether a rule matches at the place with this label: one of its identity globs has the label, one
 /// of its action globs the action, and it has a value for the category.
-fn matches_at(label: &Text, action: &Text, category: Category, entry: &RuleEntry) -> bool
+pub fn matches_at(label: &Text, action: &Text, category: Category, entry: &RuleEntry) -> bool
     ensures matches { result ≡ matches_at label.now action.now category entry.now }
 {
     is_in_any(entry.identities.as_slice(), label)

@@ -11,7 +11,7 @@ use authority_model::{Action, Policy, RuleSource, World};
 use pk_types::{Category, Implicit, Text};
 
 /// The value of an action, and what gave it: the rule, or else the action's default.
-fn value_by(category: Category, action: &Action, rule: Option<Rule>) -> (Implicit, RuleSource)
+pub fn value_by(category: Category, action: &Action, rule: Option<Rule>) -> (Implicit, RuleSource)
     ensures value { result ≡ value_by category action.now (option_map rule_seen rule.entry) }
 {
     match rule {

@@ -1,21 +1,22 @@
 //! The program `polkit_agent`, over the files and the sockets of the system.
 //!
 //! What the agent does is proved of `script_agent::script_agent`; this program passes the words and
-//! standard output on, and tells how it ended.
+//! standard output on, and tells on standard error how it ended.
 #![tactic(auto)]
 
 ghost use Rattle.pk_outside.specs.Allowing.{IsFree};
 
 use client_commands::read_agent;
 use command_line::{ProgramTexts, WordsRefused, words};
+use link_handshake::ShakeFault;
 use pk_outside::{Station, Tree};
 use pk_types::Text;
 use rand::make_rng;
 use rand::rngs::StdRng;
 use real_outside::{DirTree, SocketStation, WriteSink};
 use script_agent::{AgentStatus, script_agent};
-use std::io;
 use std::process::ExitCode;
+use std::{io, str};
 
 /// The exit code where the system gives no random words. No status has it.
 const NO_RANDOM_WORDS: u8 = 71;
@@ -46,7 +47,7 @@ Exit status: 0 done, 126 the registration was refused, 127 usage or a fault of t
 station, a link or the output, 70 out of memory, 71 the system gives no random words. Any but 0 is
 told on standard error.
 ",
-    version: "polkit_agent 0.105.0\n",
+    version: "polkit_agent 0.105.0 (proved 0.2.0)\n",
 };
 
 /// Tells on standard error what is wrong with the words.
@@ -59,8 +60,37 @@ fn tell_fault<R: Eprint + AllocGlobal>(rt: &R, words: &[Text]) {
     }
 }
 
+/// Tells on standard error that a handshake failed, and which doors there are.
+fn tell_shake<R: Eprint + AllocGlobal>(rt: &R, words: &[Text], fault: ShakeFault) {
+    let _ = eprintln!(rt; "BadShake {fault:?}");
+    let Ok(plan) = read_agent(rt.alloc(), words) else {
+        return;
+    };
+    let path = str::from_utf8(plan.path.bytes()).unwrap_or("");
+    let helper = str::from_utf8(plan.helper.bytes()).unwrap_or("");
+    let uid = plan.uid;
+    let _ = eprintln!(rt;
+        "{path} is not a door for the user {uid}, or {helper} is not one for the user 0"
+    );
+}
+
+/// Tells on standard error how an agent ended that did not meet all challenges.
+fn tell<R: Eprint + AllocGlobal>(rt: &R, words: &[Text], status: AgentStatus) {
+    match status {
+        AgentStatus::Done => {}
+        AgentStatus::Usage => tell_fault(rt, words),
+        AgentStatus::BadShake { fault } => tell_shake(rt, words, fault),
+        AgentStatus::BadBytes { kind, at } => {
+            let _ = eprintln!(rt; "BadBytes {kind:?} {at}");
+        }
+        _ => {
+            let _ = eprintln!(rt; "{status:?}");
+        }
+    }
+}
+
 /// Does what the words ask.
-fn answer<R: Print + Eprint + AllocGlobal + Sync, T: Tree, N: Station>(
+fn answer<R: Print + AllocGlobal + Sync, T: Tree, N: Station>(
     rt: &R,
     words: &[Text],
     tree: &mut T,
@@ -75,11 +105,7 @@ fn answer<R: Print + Eprint + AllocGlobal + Sync, T: Tree, N: Station>(
         };
     }
     let mut output = WriteSink::new(io::writer(rt));
-    let status = script_agent(rt.alloc(), words, tree, station, &mut output);
-    if status == AgentStatus::Usage {
-        tell_fault(rt, words);
-    }
-    status
+    script_agent(rt.alloc(), words, tree, station, &mut output)
 }
 
 /// How the program ends where its words could not be read.
@@ -89,22 +115,9 @@ fn without_words<R: Eprint>(rt: &R, refused: WordsRefused) -> AgentStatus {
             TEXTS.tell_usage(rt, "error: a word is not a text");
             AgentStatus::Usage
         }
-        WordsRefused::NoMemory => AgentStatus::NoMemory,
-    }
-}
-
-/// Tells a status other than `Done` and `Usage` by one line on standard error.
-fn tell<R: Eprint>(rt: &R, status: AgentStatus) {
-    match status {
-        AgentStatus::Done | AgentStatus::Usage => {}
-        AgentStatus::BadShake { fault } => {
-            let _ = eprintln!(rt; "BadShake {fault:?}");
-        }
-        AgentStatus::BadBytes { kind, at } => {
-            let _ = eprintln!(rt; "BadBytes {kind:?} {at}");
-        }
-        _ => {
-            let _ = eprintln!(rt; "{status:?}");
+        WordsRefused::NoMemory => {
+            let _ = eprintln!(rt; "{:?}", AgentStatus::NoMemory);
+            AgentStatus::NoMemory
         }
     }
 }
@@ -121,10 +134,13 @@ fn main(rt: HostRuntime) -> ExitCode {
     let mut tree = DirTree::new(&rt);
     let mut station = SocketStation::new(&rt, rt.alloc(), random);
     let status = match words(&rt) {
-        Ok(words) => answer(&rt, words.as_slice(), &mut tree, &mut station),
+        Ok(words) => {
+            let status = answer(&rt, words.as_slice(), &mut tree, &mut station);
+            tell(&rt, words.as_slice(), status);
+            status
+        }
         Err(refused) => without_words(&rt, refused),
     };
-    tell(&rt, status);
     if let Some(refusal) = station.refusal() {
         let _ = eprintln!(rt; "{refusal}");
     }

@@ -65,6 +65,18 @@ abbrev pub IsNoService : Option Named → Type 0
 IsNoService (Some (Named.Serve words)) = ⊥
 IsNoService other = Unit {0}
 
+-- the words name nothing that asks something of the station: neither a service nor a pipe
+abbrev pub AsksNoStation : Option Named → Type 0
+AsksNoStation (Some (Named.Serve words)) = ⊥
+AsksNoStation (Some (Named.Pipe uid root entries)) = ⊥
+AsksNoStation other = Unit {0}
+
+-- the words name nothing that loads a root: no command, or a generated run
+abbrev pub AsksNoTree : Option Named → Type 0
+AsksNoTree None = Unit {0}
+AsksNoTree (Some (Named.Load checks)) = Unit {0}
+AsksNoTree other = ⊥
+
 -- the numbers of a command are in their ranges, and the words of a service name a plan
 abbrev pub IsInRange : Command → Type 0
 IsInRange (command.Replay root entries) = (1 ≤ entries) × (entries ≤ MAX_ENTRIES)

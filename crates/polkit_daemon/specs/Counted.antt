@@ -1,7 +1,9 @@
--- The counts of the code, as a function.
-use Rattle.std.specs.Prelude.{ℕ, List}
-use Rattle.journal_state.specs.Counted.{sent_in}
+-- How many outputs each connection was sent.
+use Rattle.std.specs.Prelude.{ℕ, List, unwrap_or}
+use Rattle.std.specs.Map.{lookup}
+use Rattle.std.specs.BTreeMap.{is_at}
+use Rattle.std.specs.Ordering.{nat_cmp}
 
--- how many outputs a connection was sent
+-- the count of each connection, which is 0 where it has none
 abbrev pub counted : List (ℕ × ℕ) → ℕ → ℕ
-counted counts = λ to. sent_in counts to
+counted counts = λ c. unwrap_or (lookup (is_at (nat_cmp c)) counts) 0

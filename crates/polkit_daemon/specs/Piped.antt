@@ -58,14 +58,13 @@ PipesFrom p before now t (status.Truncated rest) = PipesFirst p before now t (en
 PipesFrom p before now t status.NoMemory = IsUntouched t ⊎ PipesFirst p before now t end.NoMemory
 PipesFrom p before now t other = ⊥
 
--- the same with a clock and a salt that a station made
-pub record PipesMade (p : Plan) (before now : ℕ) (station : Option StationTold) (left_before left : Option (List ℕ)) (ended : Bool) (held_before held : Option (List ℕ)) (s : Status) : Type 0 where
+-- the same with a clock and a salt that a station made, which made nothing else
+pub record PipesMade (p : Plan) (before now : ℕ) (station station' : Option StationTold) (left_before left : Option (List ℕ)) (ended : Bool) (held_before held : Option (List ℕ)) (s : Status) : Type 0 where
   pub clock_before : Supply
   pub clock : Supply
   pub salt_before : Supply
   pub salt : Supply
   pub with_clock : Option StationTold
-  pub with_both : Option StationTold
   pub makes_clock : MakesClock station with_clock clock_before.left clock_before.gave
-  pub makes_salt : MakesSalt with_clock with_both salt_before.left salt_before.gave
+  pub makes_salt : MakesSalt with_clock station' salt_before.left salt_before.gave
   pub run : PipesFrom p before now (traffic left_before left ended held_before held clock_before clock salt_before salt) s

@@ -6,6 +6,7 @@ mod generating;
 mod piping;
 mod replaying;
 mod rooted;
+mod sent_counts;
 mod serving;
 mod status;
 mod top;

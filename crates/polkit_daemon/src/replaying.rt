@@ -11,11 +11,11 @@ ghost use Rattle.polkit_daemon.specs.Replay.{Replays};
 ghost use Rattle.authority_model.specs.Entering.{AreAllowed};
 ghost use Rattle.scenario_run.specs.Scene.{start};
 
+use crate::sent_counts::SentCounts;
 use crate::status::Status;
 use crate::written::{WriteRefused, write_answers};
 use authority_core::Limits;
 use authority_model::Loaded;
-use journal_state::SentCounts;
 use pk_outside::{Sink, Source, Tree};
 use pk_types::{NoMemory, Text};
 use scenario_run::{LineEffect, LineStop, ScenarioRun};

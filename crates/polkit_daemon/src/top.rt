@@ -1,7 +1,7 @@
 // The top call: the command that the words name.
 ghost use Rattle.std.specs.Prelude.{◌≡◌, ◌↔◌, None, Some, Option, List, ℕ};
 ghost use Rattle.pk_outside.specs.Allowing.{IsFree};
-ghost use Rattle.polkit_daemon.specs.Commands.{IsNoService, Named, command_of, limits_of};
+ghost use Rattle.polkit_daemon.specs.Commands.{AsksNoStation, AsksNoTree, IsNoService, Named, command_of, limits_of};
 ghost use Rattle.polkit_daemon.specs.Faults.{InputFaults, OutputFaults};
 ghost use Rattle.polkit_daemon.specs.Generate.{Generates};
 ghost use Rattle.polkit_daemon.specs.Piped.{PipesMade};
@@ -63,7 +63,7 @@ pub fn polkitd<R: Threads + Wait + Sync, T: Tree, N: Station, I: Source, O: Sink
     // make, as far as the status says. Its clock and its salt are made by the station.
     ensures pipe { (uid : ℕ) (root : List ℕ) (entries : ℕ) → command_of words.now ≡ Some (Named.Pipe uid root entries) →
         PipesMade (record { uid = uid; root = root; told = T.told tree.old; limits = limits_of entries }) (T.faults tree.old) (T.faults tree.new)
-        (N.told station.old) (I.left input.old) (I.left input.new) (I.ended input.new) (O.held output.old) (O.held output.new) result }
+        (N.told station.old) (N.told station.new) (I.left input.old) (I.left input.new) (I.ended input.new) (O.held output.old) (O.held output.new) result }
 
     // The words behind `serve` name a plan, which is served; where memory is refused before that,
     // nothing was touched. A service reads nothing of the input.
@@ -76,6 +76,12 @@ pub fn polkitd<R: Threads + Wait + Sync, T: Tree, N: Station, I: Source, O: Sink
     ensures load { (checks : ℕ) → command_of words.now ≡ Some (Named.Load checks) →
         Generates checks (O.held output.old) (O.held output.new) result }
     ensures load_unread { (checks : ℕ) → command_of words.now ≡ Some (Named.Load checks) → I.left input.new ≡ I.left input.old }
+
+    // No other command makes anything by the station, or dials: it tells what it told. Nor does one that
+    // loads no root look at the tree.
+    ensures unmade { AsksNoStation (command_of words.now) → N.told station.new ≡ N.told station.old }
+    ensures uncounted { IsNoService (command_of words.now) → N.faults station.new ≡ N.faults station.old }
+    ensures unlooked { AsksNoTree (command_of words.now) → (T.told tree.new ≡ T.told tree.old) × (T.faults tree.new ≡ T.faults tree.old) }
 
     // A fault of the outside is told exactly where the object counted it, by its last call. A service
     // tells that of the output only where no other cause comes first.

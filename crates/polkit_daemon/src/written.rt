@@ -6,8 +6,8 @@ ghost use Rattle.scenario_run.specs.Text.{outputs_text, counts_after};
 ghost use Rattle.polkit_daemon.specs.Counted.{counted};
 ghost use Rattle.polkit_daemon.specs.Faults.{AnswerWrites};
 
+use crate::sent_counts::SentCounts;
 use authority_model::{History, Output};
-use journal_state::SentCounts;
 use pk_outside::{Failed, Sink, write_all};
 use pk_types::NoMemory;
 use scenario_text::answer_text;

@@ -5,14 +5,18 @@ use crate::asking::{asked, check_is_too_long, event, method, written_again};
 use crate::clients::{agent_reply_bytes, pkcheck_words, polkit_agent_words, question, told};
 use crate::commands::{agent_rule, door, serve_plan};
 use crate::counts::{count_groups, count_processes, count_sessions, count_users};
+use crate::desk::desk;
+use crate::entries::{answer_line, entry_cost};
 use crate::faults::fault_names;
 use crate::handshakes::{client_first_bytes, client_handshake, handshake, reply_line};
-use crate::ids::{action_id, first_bad_byte, implicit, implicit_of_code, number, text};
+use crate::ids::{action_id, copied, first_bad_byte, implicit, implicit_of_code, number, text};
 use crate::keyfiles::{count_pairs, keyfile, list_items};
 use crate::messages::{call_size, message, path, prefixes, return_size};
 use crate::model::{cause, cookie, grant_id, identity, localized_text};
 use crate::pieces::{all_pieces, cut_once, lines_of};
+use crate::processes::stat;
 use crate::row::{Row, Wrong};
+use crate::rule_index::implicit_by_index;
 use crate::rules::{pkla, pkla_order};
 use crate::scenario::{scenario_line, skipped};
 use crate::sending::{
@@ -38,7 +42,7 @@ fn place(names: &[&[u8]], name: &[u8]) -> Option<usize> {
 }
 
 /// The calls over texts, ids, numbers and words.
-const TEXTS: [&[u8]; 17] = [
+const TEXTS: [&[u8]; 18] = [
     b"glob",
     b"text",
     b"bad_byte",
@@ -56,6 +60,7 @@ const TEXTS: [&[u8]; 17] = [
     b"grant_id",
     b"cause",
     b"fault_names",
+    b"copied",
 ];
 
 /// Makes the call of this name, if it is one of them, and tells whether it is.
@@ -78,13 +83,14 @@ fn texts_call(row: &mut Row, name: &[u8]) -> bool {
         Some(14) => grant_id(row),
         Some(15) => cause(row),
         Some(16) => fault_names(row),
+        Some(17) => copied(row),
         _ => return false,
     }
     true
 }
 
 /// The calls over files and tables.
-const FILES: [&[u8]; 17] = [
+const FILES: [&[u8]; 18] = [
     b"keyfile",
     b"items",
     b"count_pairs",
@@ -102,6 +108,7 @@ const FILES: [&[u8]; 17] = [
     b"admins",
     b"administrators",
     b"action_file",
+    b"stat",
 ];
 
 /// Makes the call of this name, if it is one of them, and tells whether it is.
@@ -124,13 +131,14 @@ fn files_call(row: &mut Row, name: &[u8]) -> bool {
         Some(14) => named_admins(row),
         Some(15) => administrators(row),
         Some(16) => action_file(row),
+        Some(17) => stat(row),
         _ => return false,
     }
     true
 }
 
-/// The calls over command lines, rules of agents and lines of scenarios.
-const COMMANDS: [&[u8]; 7] = [
+/// The calls over command lines, rules of agents, scenarios and entries.
+const COMMANDS: [&[u8]; 11] = [
     b"door",
     b"serve_plan",
     b"pkcheck_words",
@@ -138,6 +146,10 @@ const COMMANDS: [&[u8]; 7] = [
     b"agent_rule",
     b"scenario_line",
     b"skipped",
+    b"entry_cost",
+    b"answer_line",
+    b"desk",
+    b"implicit_by_index",
 ];
 
 /// Makes the call of this name, if it is one of them, and tells whether it is.
@@ -150,6 +162,10 @@ fn commands_call(row: &mut Row, name: &[u8]) -> bool {
         Some(4) => agent_rule(row),
         Some(5) => scenario_line(row),
         Some(6) => skipped(row),
+        Some(7) => entry_cost(row),
+        Some(8) => answer_line(row),
+        Some(9) => desk(row),
+        Some(10) => implicit_by_index(row),
         _ => return false,
     }
     true

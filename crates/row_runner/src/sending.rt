@@ -102,7 +102,8 @@ pub fn reply_error(row: &mut Row) {
     }
 }
 
-fn category(row: &mut Row) -> Category {
+/// A category of an implicit authorization: `any`, `inactive` or `active`.
+pub fn category(row: &mut Row) -> Category {
     match row.bytes() {
         b"any" => Category::Any,
         b"inactive" => Category::Inactive,
@@ -195,7 +196,8 @@ pub fn reply_verdict(row: &mut Row) {
     reply_without_loads(row, serials, Answer::Verdict(verdict));
 }
 
-fn key(row: &mut Row) -> Key {
+/// A subject with its user: `process PID START UID` or `session ID UID`.
+pub fn key(row: &mut Row) -> Key {
     match row.bytes() {
         b"process" => {
             let pid = row.number_32();

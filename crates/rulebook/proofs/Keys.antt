@@ -2,7 +2,6 @@
 use Rattle.std.proofs.Common.{◌≡◌, ℕ, zero, suc, Bool, true, false, true≢false, cond, ◌&&◌, ◌==◌, List, [], ◌∷◌, Option, Some, None, refl, sym, ap, ◌∙◌, inl, inr, bytes_eq, is_some, slice_get, position, option_map}
 use Rattle.std.specs.Prelude.{if◌then◌else◌, unwrap_or}
 use Rattle.std.specs.Map.{keys_of}
-use Rattle.std.specs.Cow.{cow_slice_items}
 use Rattle.std.proofs.lemmas.Bool.Decides.{Decides-eqb}
 use Rattle.std.proofs.lemmas.Slice.Eq.{bytes_eq-Decides}
 use Rattle.indexmap.specs.IndexMap.{insert_entry, set_value_at}
@@ -23,7 +22,7 @@ same_bytes xs ys = elim (tells (bytes_eq xs ys)) [
 
 -- equality of keys
 abbrev pub same_key : TextKey → TextKey → Bool
-same_key k l = bytes_eq (cow_slice_items k) (cow_slice_items l)
+same_key k l = bytes_eq k.items l.items
 
 cond_twice : {A : Type 0} (b : Bool) (x y z : A) → cond b x z ≡ cond b x (cond b y z)
 cond_twice true x y z = refl
@@ -35,33 +34,33 @@ swapped true false x y z apart = refl
 swapped false b x y z apart = refl
 
 put_here : {X : Type 0} (b : Bool) (k : TextKey) (v : X) (e : TextKey × X) (es rest : List (TextKey × X)) (q : Bytes) → same_key k e.0 ≡ b
-    → at_text rest q ≡ cond (bytes_eq (cow_slice_items k) q) (Some v) (at_text es q)
-    → at_text (if b then (e.0, v) ∷ es else e ∷ rest) q ≡ cond (bytes_eq (cow_slice_items k) q) (Some v) (at_text (e ∷ es) q)
+    → at_text rest q ≡ cond (bytes_eq k.items q) (Some v) (at_text es q)
+    → at_text (if b then (e.0, v) ∷ es else e ∷ rest) q ≡ cond (bytes_eq k.items q) (Some v) (at_text (e ∷ es) q)
 put_here true k v e es rest q same later =
-    let one : cow_slice_items k ≡ cow_slice_items e.0 = (bytes_eq-Decides (cow_slice_items k) (cow_slice_items e.0)).0 same in
-    let test : bytes_eq q (cow_slice_items e.0) ≡ bytes_eq (cow_slice_items k) q = ap (bytes_eq q) (sym one) ∙ same_bytes q (cow_slice_items k) in
+    let one : k.items ≡ e.0.items = (bytes_eq-Decides k.items e.0.items).0 same in
+    let test : bytes_eq q e.0.items ≡ bytes_eq k.items q = ap (bytes_eq q) (sym one) ∙ same_bytes q k.items in
     ap (λ b. cond b (Some v) (at_text es q)) test
-    ∙ cond_twice (bytes_eq (cow_slice_items k) q) (Some v) (Some e.1) (at_text es q)
-    ∙ ap (λ b. cond (bytes_eq (cow_slice_items k) q) (Some v) (cond b (Some e.1) (at_text es q))) (sym test)
+    ∙ cond_twice (bytes_eq k.items q) (Some v) (Some e.1) (at_text es q)
+    ∙ ap (λ b. cond (bytes_eq k.items q) (Some v) (cond b (Some e.1) (at_text es q))) (sym test)
 put_here false k v e es rest q same later =
-    ap (cond (bytes_eq q (cow_slice_items e.0)) (Some e.1)) later
-    ∙ swapped (bytes_eq q (cow_slice_items e.0)) (bytes_eq (cow_slice_items k) q) (Some e.1) (Some v) (at_text es q)
-    (λ hit. elim (tells (bytes_eq (cow_slice_items k) q)) [
-      | inl too ↦ absurd (true≢false (sym ((bytes_eq-Decides (cow_slice_items k) (cow_slice_items e.0)).1 ((bytes_eq-Decides (cow_slice_items k) q).0 too ∙ (bytes_eq-Decides q (cow_slice_items e.0)).0 hit)) ∙ same))
+    ap (cond (bytes_eq q e.0.items) (Some e.1)) later
+    ∙ swapped (bytes_eq q e.0.items) (bytes_eq k.items q) (Some e.1) (Some v) (at_text es q)
+    (λ hit. elim (tells (bytes_eq k.items q)) [
+      | inl too ↦ absurd (true≢false (sym ((bytes_eq-Decides k.items e.0.items).1 ((bytes_eq-Decides k.items q).0 too ∙ (bytes_eq-Decides q e.0.items).0 hit)) ∙ same))
       | inr miss ↦ miss
     ])
 
 -- what is at a text after a row is put in
 pub put-text : {X : Type 0} (es : List (TextKey × X)) (k : TextKey) (v : X) (q : Bytes)
-    → at_text (insert_entry same_key es k v) q ≡ cond (bytes_eq (cow_slice_items k) q) (Some v) (at_text es q)
-put-text [] k v q = ap (λ b. cond b (Some v) None) (same_bytes q (cow_slice_items k))
+    → at_text (insert_entry same_key es k v) q ≡ cond (bytes_eq k.items q) (Some v) (at_text es q)
+put-text [] k v q = ap (λ b. cond b (Some v) None) (same_bytes q k.items)
 put-text (e ∷ es) k v q = put_here (same_key k e.0) k v e es (insert_entry same_key es k v) q refl (put-text es k v q)
 
 -- the row at this index is the first of this text
 abbrev IsAt : Bytes → List (TextKey × List ℕ) → ℕ → Type 0
 IsAt g [] i = ⊥
-IsAt g (e ∷ es) zero = bytes_eq g (cow_slice_items e.0) ≡ true
-IsAt g (e ∷ es) (suc i) = (bytes_eq g (cow_slice_items e.0) ≡ false) × IsAt g es i
+IsAt g (e ∷ es) zero = bytes_eq g e.0.items ≡ true
+IsAt g (e ∷ es) (suc i) = (bytes_eq g e.0.items ≡ false) × IsAt g es i
 
 later_place : (b : Bool) (o : Option ℕ) (i : ℕ) → cond b (Some 0) (option_map suc o) ≡ Some (suc i) → (b ≡ false) × (o ≡ Some i)
 later_place true o i e = absurd (cc)
@@ -73,11 +72,11 @@ first_place true o e = refl
 first_place false None e = absurd (cc)
 first_place false (Some n) e = absurd (cc)
 
-found_at : (g : Bytes) (es : List (TextKey × List ℕ)) (i : ℕ) → position (λ k. bytes_eq g (cow_slice_items k)) (keys_of es) ≡ Some i → IsAt g es i
+found_at : (g : Bytes) (es : List (TextKey × List ℕ)) (i : ℕ) → position (λ k. bytes_eq g k.items) (keys_of es) ≡ Some i → IsAt g es i
 found_at g [] i e = absurd (cc)
-found_at g (x ∷ es) zero e = first_place _ _ (sym (position-cons (λ k. bytes_eq g (cow_slice_items k)) x.0 (keys_of es)) ∙ e)
+found_at g (x ∷ es) zero e = first_place _ _ (sym (position-cons (λ k. bytes_eq g k.items) x.0 (keys_of es)) ∙ e)
 found_at g (x ∷ es) (suc i) e =
-    let parts = later_place _ _ i (sym (position-cons (λ k. bytes_eq g (cow_slice_items k)) x.0 (keys_of es)) ∙ e) in
+    let parts = later_place _ _ i (sym (position-cons (λ k. bytes_eq g k.items) x.0 (keys_of es)) ∙ e) in
     (parts.0, found_at g es i parts.1)
 
 changed_here : (b : Bool) (old w : List ℕ) (o : Option (List ℕ)) (p : ℕ) → w ≡ add_place old p → unwrap_or (cond b (Some w) o) [] ≡ add_where b (unwrap_or (cond b (Some old) o) []) p
@@ -94,22 +93,22 @@ changed : (g : Bytes) (es : List (TextKey × List ℕ)) (i : ℕ) (k : TextKey) 
 changed g [] i k old w p q at is new = absurd at
 changed g (e ∷ es) zero k old w p q at is new =
     let value : e.1 ≡ old = cc in
-    let one : g ≡ cow_slice_items e.0 = (bytes_eq-Decides g (cow_slice_items e.0)).0 at in
-    let test : bytes_eq q (cow_slice_items e.0) ≡ bytes_eq g q = ap (bytes_eq q) (sym one) ∙ same_bytes q g in
+    let one : g ≡ e.0.items = (bytes_eq-Decides g e.0.items).0 at in
+    let test : bytes_eq q e.0.items ≡ bytes_eq g q = ap (bytes_eq q) (sym one) ∙ same_bytes q g in
     ap (λ b. unwrap_or (cond b (Some w) (at_text es q)) []) test
     ∙ changed_here (bytes_eq g q) e.1 w (at_text es q) p (new ∙ ap (λ ps. add_place ps p) (sym value))
     ∙ ap (λ b. add_where (bytes_eq g q) (unwrap_or (cond b (Some e.1) (at_text es q)) []) p) (sym test)
 changed g (e ∷ es) (suc i) k old w p q at is new =
-    changed_later (bytes_eq q (cow_slice_items e.0)) (bytes_eq g q) e.1 (at_text es q) (at_text (set_value_at es i w) q) p
+    changed_later (bytes_eq q e.0.items) (bytes_eq g q) e.1 (at_text es q) (at_text (set_value_at es i w) q) p
     (λ hit. elim (tells (bytes_eq g q)) [
-      | inl too ↦ absurd (true≢false (sym ((bytes_eq-Decides g (cow_slice_items e.0)).1 ((bytes_eq-Decides g q).0 too ∙ (bytes_eq-Decides q (cow_slice_items e.0)).0 hit)) ∙ at.0))
+      | inl too ↦ absurd (true≢false (sym ((bytes_eq-Decides g e.0.items).1 ((bytes_eq-Decides g q).0 too ∙ (bytes_eq-Decides q e.0.items).0 hit)) ∙ at.0))
       | inr miss ↦ miss
     ])
     (changed g es i k old w p q at.1 is new)
 
 -- what is listed at a text after a place goes last in the list that a look-up found
 pub place-added : (g : Bytes) (es : List (TextKey × List ℕ)) (i : ℕ) (k : TextKey) (old w : List ℕ) (p : ℕ) (q : Bytes)
-    → Some i ≡ position (λ k. bytes_eq g (cow_slice_items k)) (keys_of es) → slice_get es i ≡ Some (k, old) → w ≡ add_place old p
+    → Some i ≡ position (λ k. bytes_eq g k.items) (keys_of es) → slice_get es i ≡ Some (k, old) → w ≡ add_place old p
     → listed (set_value_at es i w) q ≡ add_where (bytes_eq g q) (listed es q) p
 place-added g es i k old w p q found is new = changed g es i k old w p q (found_at g es i (sym found)) is new
 

@@ -2,9 +2,8 @@
 use Rattle.std.specs.Prelude.{◌≡◌, ℕ, ◌+◌, ◌==◌, Bool, false, not, ◌&&◌, ◌||◌, if◌then◌else◌, List, [], ◌∷◌, ◌++◌, Option, None, Some, nat_lt, unwrap_or, option_map, option_to_list, flat_map, bytes_eq, slice_get, position}
 use Rattle.std.specs.List.{list_any}
 use Rattle.std.specs.Map.{lookup}
-use Rattle.std.specs.Cow.{cow_slice_items}
 use Rattle.std.specs.declared.alloc.Global.{Global}
-use Rattle.std.specs.declared.borrow.CowSlice.{CowSlice}
+use Rattle.std.specs.declared.vec.Vec.{Vec}
 use Rattle.pk_types.specs.Text.{IsText}
 use Rattle.authority_model.specs.declared.policy.Policy.{Policy}
 use Rattle.authority_model.specs.declared.policy.RuleEntry.{RuleEntry}
@@ -47,13 +46,13 @@ add_place places p = if ends_with places p then places else places ++ p ∷ []
 abbrev pub add_where : Bool → List ℕ → ℕ → List ℕ
 add_where test places p = if test then add_place places p else places
 
--- a text as a key, which is owned or borrowed
+-- a text as a key, which owns its bytes
 abbrev pub TextKey : Type 0
-TextKey = CowSlice ℕ Global
+TextKey = Vec ℕ Global
 
 -- the value at a text
 abbrev pub at_text : {X : Type 0} → List (TextKey × X) → Bytes → Option X
-at_text rows text = lookup (λ k. bytes_eq text (cow_slice_items k)) rows
+at_text rows text = lookup (λ k. bytes_eq text k.items) rows
 
 -- the list at a text; where there is none, no place
 abbrev pub listed : List (TextKey × List ℕ) → Bytes → List ℕ

@@ -1,7 +1,6 @@
 // The places of the rules with each exact identity glob.
-ghost use Rattle.std.specs.Prelude.{◌≡◌, ◌<◌, ◌&&◌, Some, IfOk, OnOk, bytes_eq, cond, not, [], ◌∷◌, slice_get};
+ghost use Rattle.std.specs.Prelude.{◌≡◌, ◌&&◌, Some, IfOk, OnOk, bytes_eq, cond, not, [], ◌∷◌};
 ghost use Rattle.std.specs.List.{list_any};
-ghost use Rattle.indexmap.specs.IndexMap.{index_map_len, values};
 ghost use Rattle.authority_model.specs.Words.{Bytes};
 ghost use Rattle.pk_types.specs.Text.{IsText};
 ghost use Rattle.rulebook.specs.Indexes.{is_wild, is_exact, ends_with, add_place, add_where, at_text, listed};
@@ -10,13 +9,12 @@ use crate::texts::{TextKey, key_of};
 use indexmap::IndexMap;
 use pk_types::{List, NoMemory, Text};
 use std::alloc::Global;
-use std::borrow::CowSlice;
 
 /// Places among the rules, rising.
 pub type Places = List<u32>;
 
 /// The places of the rules with each exact identity glob.
-pub type GlobPlaces = IndexMap<TextKey<'static>, Places>;
+pub type GlobPlaces = IndexMap<TextKey, Places>;
 
 /// `*`, which stands for any run of scalars.
 const STAR: u8 = 42;
@@ -66,24 +64,13 @@ pub fn add_place(places: &mut Places, place: u32) -> Result<(), NoMemory>
     places.try_push(place)
 }
 
-/// The list at this index of the map.
-fn places_at(exact: &GlobPlaces, at: usize) -> &[u32]
-    requires within { at < index_map_len exact.now }
-    ensures list { slice_get (values exact.now) at ≡ Some result.now }
-{
-    match exact.get_index(at) {
-        Some((_key, places)) => places.as_slice(),
-        None => unreachable!(),
-    }
-}
-
 /// The places of the rules with this exact identity glob.
 pub fn listed<'a>(exact: &'a GlobPlaces, glob: &Text) -> &'a [u32]
     ensures listed { result.now ≡ listed exact.now.entries glob.now }
     ensures text { IsText glob.now }
 {
-    match (&*exact).get_index_of(&CowSlice::Borrowed(glob.bytes())) {
-        Some(at) => places_at(&*exact, at),
+    match exact.get(glob.bytes()) {
+        Some(places) => places.as_slice(),
         None => &[],
     }
 }
@@ -113,7 +100,7 @@ fn put_place(alloc: Global, exact: &mut GlobPlaces, glob: &Text, place: u32) -> 
     ensures put { OnOk result ((q : Bytes) → listed exact.new.entries q
         ≡ add_where (bytes_eq glob.now q) (listed exact.old.entries q) place) }
 {
-    match exact.get_index_of(&CowSlice::Borrowed(glob.bytes())) {
+    match exact.get_index_of(glob.bytes()) {
         Some(at) => {
             let (_key, places) = exact.pair_mut(at);
             add_place(places, place)

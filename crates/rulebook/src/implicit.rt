@@ -3,16 +3,15 @@ ghost use Rattle.std.specs.Prelude.{◌≡◌, flat_map, Some};
 ghost use Rattle.std.specs.Option.{option_map};
 ghost use Rattle.authority_model.specs.Rules.{deciding, greatest, implicit, places_of_row};
 ghost use Rattle.authority_model.specs.Small.{IsShort};
-ghost use Rattle.policy_decide.specs.Walks.{group_places};
-ghost use Rattle.rulebook.specs.Rules.{rule_seen};
+ghost use Rattle.policy_decide.specs.Walks.{group_places, rule_seen};
 ghost use Rattle.rulebook.specs.Indexes.{IsIndexOf};
 
 use crate::index::RuleIndex;
 use crate::rows::WorldRows;
-use crate::rules::value_by;
 use crate::search::{Search, last_at};
 use authority_model::{Policy, RuleSource, User};
 use pk_types::{Category, Implicit, Text};
+use policy_decide::value_by;
 
 /// The last rule that matches at the place of a group.
 fn last_of_group<'a, R: WorldRows>(

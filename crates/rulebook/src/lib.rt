@@ -14,7 +14,6 @@ mod implicit;
 mod index;
 mod numbers;
 mod rows;
-mod rules;
 mod search;
 mod texts;
 mod world_build;

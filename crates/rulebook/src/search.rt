@@ -4,14 +4,14 @@ ghost use Rattle.std.specs.Option.{option_map};
 ghost use Rattle.authority_model.specs.Lists.{find_last};
 ghost use Rattle.authority_model.specs.Rules.{matches_at, last_at};
 ghost use Rattle.authority_model.specs.Small.{IsShort};
-ghost use Rattle.rulebook.specs.Rules.{rule_seen};
+ghost use Rattle.policy_decide.specs.Walks.{rule_seen};
 ghost use Rattle.rulebook.specs.Indexes.{rows_at, later, listed, IsIndexOf};
 
 use crate::globs::listed;
 use crate::index::RuleIndex;
-use crate::rules::{Rule, matches_at};
 use authority_model::{Policy, RuleList};
 use pk_types::{Category, Text};
+use policy_decide::{Rule, matches_at};
 
 /// What a search came to: the rule, and how many were looked at.
 #[derive(Clone, Copy)]

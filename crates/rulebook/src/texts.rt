@@ -1,6 +1,5 @@
-// Places by a text: owned in the index, borrowed in a look-up.
+// Places by a text. A key owns its bytes, and a look-up borrows them.
 ghost use Rattle.std.specs.Prelude.{◌≡◌, IfOk, OnOk, bytes_eq};
-ghost use Rattle.std.specs.Cow.{cow_slice_items};
 ghost use Rattle.authority_model.specs.Words.{Bytes};
 ghost use Rattle.authority_model.specs.Lists.{or_else, when};
 ghost use Rattle.rulebook.specs.Indexes.{at_text};
@@ -8,13 +7,12 @@ ghost use Rattle.rulebook.specs.Indexes.{at_text};
 use indexmap::IndexMap;
 use pk_types::{NoMemory, Text};
 use std::alloc::Global;
-use std::borrow::CowSlice;
 
 /// A text as a key.
-pub type TextKey<'a> = CowSlice<'a, u8, Global>;
+pub type TextKey = Vec<u8, Global>;
 
 /// A place by a text.
-pub type TextPlaces = IndexMap<TextKey<'static>, u32>;
+pub type TextPlaces = IndexMap<TextKey, u32>;
 
 /// A place in 32 bits. A list that is longer than that is refused as one that has no memory.
 pub fn place_of(i: usize) -> Result<u32, NoMemory>
@@ -28,18 +26,17 @@ pub fn place_of(i: usize) -> Result<u32, NoMemory>
 }
 
 /// A copy of a text as a key.
-pub fn key_of(alloc: Global, text: &Text) -> Result<TextKey<'static>, NoMemory>
-    ensures key { IfOk result (λ key. cow_slice_items key ≡ text.now) }
+pub fn key_of(alloc: Global, text: &Text) -> Result<TextKey, NoMemory>
+    ensures key { IfOk result (λ key. key.items ≡ text.now) }
 {
-    let bytes = text.bytes().to_vec(alloc)?;
-    Ok(CowSlice::Owned(bytes))
+    Ok(text.bytes().to_vec(alloc)?)
 }
 
 /// The place of a text.
 pub fn text_place(places: &TextPlaces, text: &Text) -> Option<u32>
     ensures place { result ≡ at_text places.now.entries text.now }
 {
-    places.get(&CowSlice::Borrowed(text.bytes())).copied()
+    places.get(text.bytes()).copied()
 }
 
 /// Gives a text a place, unless it has one.

@@ -4,6 +4,7 @@ use Rattle.std.specs.Prelude.{Bool, nat_lt, true}
 use Rattle.std.proofs.lemmas.Bool.{lt-ltb}
 use Rattle.std.proofs.lemmas.List.Elements.{All-append, All-cons, All-nil}
 use mathlib.Core.List.{IsPrefix}
+use Rattle.history_lock.specs.declared.machine.TheConstants.{MOST_PASSES}
 use Rattle.history_lock.specs.Known.{Known}
 use Rattle.history_lock.specs.Calls.{Learned}
 use Rattle.pk_outside.specs.Causes.{Rose, RoseWhere}
@@ -34,7 +35,7 @@ pub record AfterLine (limits : Limits) (m : Known Item) (told : Option DoorTold)
 pub after_line : (limits : Limits) (uid : ℕ) (v w m : Known Item) (left0 left held0 held gave0 gave drawn0 drawn : Option (List ℕ)) (read_faults0 read_faults write_faults0 write_faults : ℕ)
     (told : Option DoorTold) (faults : ℕ) (lines : List Line) (number owner : ℕ) (end : End)
     → Serves limits uid v w left0 left held0 held gave0 gave drawn0 drawn read_faults0 read_faults write_faults0 write_faults end
-    → IsPrefix w.history m.history → IsJournal m.history → w.made ≤ m.made → m.made ≤ 1048576 → NoneEnded lines
+    → IsPrefix w.history m.history → IsJournal m.history → w.made ≤ m.made → m.made ≤ MOST_PASSES → NoneEnded lines
     → AfterLine limits m told faults (lines ++ record { number = number; uid = owner; end = end } ∷ []) (stop_after end)
 after_line limits uid v w m left0 left held0 held gave0 gave drawn0 drawn r0 r f0 f told faults lines number owner (end.Ended cause) s longer legal made top none = record {
   goes_on = tt;
@@ -56,7 +57,7 @@ after_line limits uid v w m left0 left held0 held gave0 gave drawn0 drawn r0 r f
 pub after_next : (limits : Limits) (uid : ℕ) (v w m n : Known Item) (left0 left held0 held gave0 gave drawn0 drawn : Option (List ℕ)) (read_faults0 read_faults write_faults0 write_faults : ℕ)
     (told : Option DoorTold) (faults : ℕ) (lines all : List Line) (number owner : ℕ) (end : End) (why : Option SlotStop) {s : Known Item}
     → Serves limits uid v w left0 left held0 held gave0 gave drawn0 drawn read_faults0 read_faults write_faults0 write_faults end
-    → Learned caller_of IsJournal s m → Learned caller_of IsJournal w n → m.history ≡ n.history → m.made ≡ n.made → m.made ≤ 1048576 → NoneEnded lines
+    → Learned caller_of IsJournal s m → Learned caller_of IsJournal w n → m.history ≡ n.history → m.made ≡ n.made → m.made ≤ MOST_PASSES → NoneEnded lines
     → all ≡ lines ++ record { number = number; uid = owner; end = end } ∷ [] → why ≡ stop_after end
     → AfterLine limits m told faults all why
 after_next limits uid v w m n left0 left held0 held gave0 gave drawn0 drawn r0 r f0 f told faults lines all number owner end why served first second same_history same_made top none all_is why_is =
@@ -69,7 +70,7 @@ after_next limits uid v w m n left0 left held0 held gave0 gave drawn0 drawn r0 r
 -- a slot that was shut had stopped for this, as the control pass knows since
 pub stop_told : (limits : Limits) (most : Option ℕ) (v w : Known Item) (told : Option DoorTold) (faults before now : ℕ) (lines : List Line) (why : Option SlotStop)
     → IsStopped limits most v told faults lines why → RoseWhere (nat_lt 0 faults) before now
-    → IsPrefix v.history w.history → IsJournal w.history → v.made ≤ w.made → w.made ≤ 1048576
+    → IsPrefix v.history w.history → IsJournal w.history → v.made ≤ w.made → w.made ≤ MOST_PASSES
     → StopTells limits most w before now lines why
 stop_told limits most v w told faults before now lines None is rose longer legal made top = absurd is
 stop_told limits most v w told faults before now lines (Some stop.Closed) is rose longer legal made top = is.1

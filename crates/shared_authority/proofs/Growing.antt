@@ -3,6 +3,7 @@ use Rattle.std.proofs.Common.{◌≡◌, ℕ, ◌<◌, ◌≤◌, Bool, true, fa
 use Rattle.std.specs.Prelude.{Result, OnOk, OnErr, nat_le, reverse}
 use Rattle.std.proofs.lemmas.List.{reverse-reverse, reverse-append, length-reverse, length-append}
 use Rattle.std.proofs.lemmas.Bool.Decides.{nat_tests}
+use Rattle.authority_model.specs.declared.journal.TheConstants.{MAX_ENTRIES}
 use Rattle.authority_model.specs.declared.journal.History.{History}
 use Rattle.authority_model.specs.declared.journal.Item.{Item}
 use Rattle.authority_model.specs.declared.journal.Limits.{Limits}
@@ -46,7 +47,7 @@ stays_within (Ok value) old new g grows err room limits named within =
 stays_within (Err refused) old new g grows err room limits named within = subst (λ (j : Journal). length j.history.entries ≤ limits.entries) (sym err) within
 
 -- the list of a journal that has grown is a journal
-pub order_journal : (h h' : History) (g : Given) (limits : Limits) → Grows h h' g → IsLegal h' → is_full limits (items_of h) ≡ false → limits.entries ≤ 1048576 → IsJournal (in_order h')
+pub order_journal : (h h' : History) (g : Given) (limits : Limits) → Grows h h' g → IsLegal h' → is_full limits (items_of h) ≡ false → limits.entries ≤ MAX_ENTRIES → IsJournal (in_order h')
 order_journal h h' g limits grows legal room few = record {
   history = legal.items;
   few =

@@ -2,8 +2,8 @@
 ghost use Rattle.std.specs.Prelude.{◌≡◌};
 ghost use Rattle.authority_model.specs.Rules as rules;
 
-use crate::words::has_word;
 use authority_model::Action;
+use check_decision::has_word;
 
 /// Whether an annotation has this word among its words.
 pub fn annotates(action: &Action, key: &[u8], word: &[u8]) -> bool

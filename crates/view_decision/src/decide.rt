@@ -1,19 +1,17 @@
 // The decision on a subject of known facts.
-ghost use Rattle.std.specs.Prelude.{◌≡◌, List};
+ghost use Rattle.std.specs.Prelude.{◌≡◌};
 ghost use Rattle.std.specs.Option.{option_map};
-ghost use Rattle.authority_model.specs.declared.journal.Item.{Item};
 ghost use Rattle.authority_model.specs.Facts.{facts_seen};
 ghost use Rattle.authority_model.specs.Grants.{kept};
 ghost use Rattle.authority_model.specs.Small.{IsShort};
 ghost use Rattle.authority_model.specs.Deciding.{decision_for};
 ghost use Rattle.authority_model.specs.Deciding as deciding;
 ghost use Rattle.check_decision.specs.DecisionRef.{decision_seen};
-ghost use Rattle.journal_view.specs.Seen.{IsSeenOf};
+ghost use Rattle.journal_view.specs.Seen.{ForHistory};
 
 use crate::implying::least_implying;
-use crate::values::{is_auth, is_yes};
 use authority_model::{Facts, RuleSource};
-use check_decision::DecisionRef;
+use check_decision::{DecisionRef, is_auth, is_yes};
 use journal_view::JournalView;
 use pk_types::{Implicit, Text};
 
@@ -39,7 +37,8 @@ fn decided<'a, V: JournalView>(
     value: (Implicit, RuleSource),
 ) -> DecisionRef<'a>
     requires rules { IsShort (V.seen view.now).loaded.policy.entries }
-    ensures decided { (past : List Item) → IsSeenOf past (V.seen view.now) → decision_seen result ≡ deciding.decided past (kept past) (facts_seen facts.now) moment action.now value }
+    ensures decided { ForHistory (V.seen view.now) (λ past.
+        decision_seen result ≡ deciding.decided past (kept past) (facts_seen facts.now) moment action.now value) }
 {
     if facts.uid == 0 {
         return DecisionRef::Root;
@@ -66,7 +65,8 @@ pub fn decision<'a, V: JournalView>(
     action: &Text,
 ) -> Option<DecisionRef<'a>>
     requires rules { IsShort (V.seen view.now).loaded.policy.entries }
-    ensures decision { (past : List Item) → IsSeenOf past (V.seen view.now) → option_map decision_seen result ≡ decision_for past (kept past) (facts_seen facts.now) moment action.now }
+    ensures decision { ForHistory (V.seen view.now) (λ past.
+        option_map decision_seen result ≡ decision_for past (kept past) (facts_seen facts.now) moment action.now) }
 {
     match view.implicit(facts.uid, facts.category, action) {
         Some(value) => Some(decided(view, facts, moment, action, value)),

@@ -1,7 +1,6 @@
 // Actions that imply another (the annotation org.freedesktop.policykit.imply of polkit(8)).
-ghost use Rattle.std.specs.Prelude.{◌≡◌, ◌&&◌, false, is_some, find, List};
+ghost use Rattle.std.specs.Prelude.{◌≡◌, false, is_some, find};
 ghost use Rattle.std.specs.Option.{option_copied, option_map_or};
-ghost use Rattle.authority_model.specs.declared.journal.Item.{Item};
 ghost use Rattle.authority_model.specs.Items.{implicit_for};
 ghost use Rattle.authority_model.specs.Facts.{facts_seen};
 ghost use Rattle.authority_model.specs.Grants.{kept};
@@ -11,12 +10,13 @@ ghost use Rattle.authority_model.specs.Small.{IsShort};
 ghost use Rattle.authority_model.specs.Words.{least_text};
 ghost use Rattle.authority_model.specs.Deciding as deciding;
 ghost use Rattle.authority_model.specs.Values as values;
-ghost use Rattle.journal_view.specs.Seen.{IsSeenOf};
+ghost use Rattle.journal_view.specs.Seen.{ForHistory};
+ghost use Rattle.view_decision.specs.Implying.{counted};
 
 use crate::annotations::annotates;
 use crate::order::lesser;
-use crate::values::is_yes;
 use authority_model::{Action, Facts};
+use check_decision::is_yes;
 use journal_view::JournalView;
 use pk_types::Text;
 
@@ -32,7 +32,7 @@ fn lists(candidate: &Action, id: &Text) -> bool
 
 /// Whether the action of one id lists another in its annotation.
 fn implies<V: JournalView>(view: &V, from: &Text, id: &Text) -> bool
-    ensures implies { (past : List Item) → IsSeenOf past (V.seen view.now) → result ≡ deciding.implies past from.now id.now }
+    ensures implies { ForHistory (V.seen view.now) (λ past. result ≡ deciding.implies past from.now id.now) }
 {
     match view.action(from) {
         Some(first) => lists(first, id),
@@ -43,7 +43,8 @@ fn implies<V: JournalView>(view: &V, from: &Text, id: &Text) -> bool
 /// Whether the value of an action is yes for a subject of these facts.
 fn is_yes_for<V: JournalView>(view: &V, facts: &Facts<'_>, id: &Text) -> bool
     requires rules { IsShort (V.seen view.now).loaded.policy.entries }
-    ensures yes { (past : List Item) → IsSeenOf past (V.seen view.now) → result ≡ option_map_or (λ (value, source). values.is_yes value) (implicit_for past (facts_seen facts.now) id.now) false }
+    ensures yes { ForHistory (V.seen view.now) (λ past.
+        result ≡ option_map_or (λ (value, source). values.is_yes value) (implicit_for past (facts_seen facts.now) id.now) false) }
 {
     match view.implicit(facts.uid, facts.category, id) {
         Some((value, _)) => is_yes(value),
@@ -53,7 +54,8 @@ fn is_yes_for<V: JournalView>(view: &V, facts: &Facts<'_>, id: &Text) -> bool
 
 /// Whether a temporary authorization is live for a subject of these facts and an action.
 fn is_granted<V: JournalView>(view: &V, facts: &Facts<'_>, moment: u64, id: &Text) -> bool
-    ensures granted { (past : List Item) → IsSeenOf past (V.seen view.now) → result ≡ is_some (find (deciding.serves (key_seen facts.now.key) id.now moment) (kept past)) }
+    ensures granted { ForHistory (V.seen view.now) (λ past.
+        result ≡ is_some (find (deciding.serves (key_seen facts.now.key) id.now moment) (kept past))) }
 {
     view.grant(facts.key, id, moment).is_some()
 }
@@ -61,7 +63,8 @@ fn is_granted<V: JournalView>(view: &V, facts: &Facts<'_>, moment: u64, id: &Tex
 /// Whether an action is allowed by its own value or by a temporary authorization of its own.
 fn is_allowed<V: JournalView>(view: &V, facts: &Facts<'_>, moment: u64, id: &Text) -> bool
     requires rules { IsShort (V.seen view.now).loaded.policy.entries }
-    ensures own { (past : List Item) → IsSeenOf past (V.seen view.now) → result ≡ deciding.own past (kept past) (facts_seen facts.now) moment id.now }
+    ensures own { ForHistory (V.seen view.now) (λ past.
+        result ≡ deciding.own past (kept past) (facts_seen facts.now) moment id.now) }
 {
     is_yes_for(view, facts, id) || is_granted(view, facts, moment, id)
 }
@@ -76,8 +79,8 @@ fn counts<V: JournalView>(
     id: &Text,
 ) -> bool
     requires rules { IsShort (V.seen view.now).loaded.policy.entries }
-    ensures counts { (past : List Item) → IsSeenOf past (V.seen view.now)
-        → result ≡ (rules.annotates candidate.now deciding.imply_key id.now && (deciding.implies past candidate.now.id id.now && deciding.own past (kept past) (facts_seen facts.now) moment candidate.now.id)) }
+    ensures counts { ForHistory (V.seen view.now) (λ past.
+        result ≡ counted past (kept past) (facts_seen facts.now) moment id.now candidate.now) }
 {
     let from = candidate.id.text();
     lists(candidate, id) && implies(view, from, id) && is_allowed(view, facts, moment, from)
@@ -91,7 +94,8 @@ pub fn least_implying<'a, V: JournalView>(
     id: &Text,
 ) -> Option<&'a Text>
     requires rules { IsShort (V.seen view.now).loaded.policy.entries }
-    ensures least { (past : List Item) → IsSeenOf past (V.seen view.now) → option_copied result ≡ least_text (deciding.implying past (kept past) (facts_seen facts.now) moment id.now) }
+    ensures least { ForHistory (V.seen view.now) (λ past.
+        option_copied result ≡ least_text (deciding.implying past (kept past) (facts_seen facts.now) moment id.now)) }
 {
     let mut least: Option<&Text> = None;
     for candidate in view.loaded().policy.actions.as_slice() {

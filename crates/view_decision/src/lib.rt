@@ -11,8 +11,6 @@ mod decide;
 mod implying;
 mod order;
 mod returns;
-mod values;
-mod words;
 
 pub use decide::decision;
 pub use returns::return_verdict;

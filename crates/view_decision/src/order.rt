@@ -1,7 +1,8 @@
 // The order of ids by their bytes.
-ghost use Rattle.std.specs.Prelude.{◌≡◌, if◌then◌else◌};
-ghost use Rattle.std.specs.Option.{option_copied, option_map_or};
+ghost use Rattle.std.specs.Prelude.{◌≡◌};
+ghost use Rattle.std.specs.Option.{option_copied};
 ghost use Rattle.authority_model.specs.Words as words;
+ghost use Rattle.view_decision.specs.Implying as implying;
 
 use pk_types::Text;
 
@@ -14,7 +15,7 @@ fn comes_before(one: &[u8], other: &[u8]) -> bool
 
 /// The lesser of a text and the least so far, where there is one.
 pub fn lesser<'a>(text: &'a Text, least: Option<&'a Text>) -> &'a Text
-    ensures lesser { result.now ≡ option_map_or (λ m. if words.comes_before text.now m then text.now else m) (option_copied least.entry) text.now }
+    ensures lesser { result.now ≡ implying.lesser text.now (option_copied least.entry) }
 {
     match least {
         None => text,

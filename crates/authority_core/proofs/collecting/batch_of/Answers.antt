@@ -5,5 +5,6 @@ use Rattle.authority_core.proofs.collecting.batch_of.Goals as goal
 
 pub outputs_from-requires-clause-first : goal.outputs_from-requires-clause-first
 outputs_from-requires-clause-first c =
-    let count = c.count-collected.ensures.count (items_of c.args.history.now) c.requires.state.collections in
-    omega (arith, count, collected_few (items_of c.args.history.now) c.args.caller c.args.of)
+    let count = c.collected-collected.ensures.count in
+    let held = c.requires.peers.collected_are c.args.caller c.args.of in
+    omega (arith, count, held, collected_few (items_of c.args.history.now) c.args.caller c.args.of)

@@ -3,5 +3,5 @@ use Rattle.authority_model.specs.Items.{items_of}
 use Rattle.authority_model.specs.Sent.{sent_to}
 use Rattle.authority_core.proofs.collecting.outputs_from.Given as goal
 
-abbrev pub invariant-loop-number : goal.invariant-loop-number
-invariant-loop-number l = l.outputs ≡ drop l.first (take l.number (sent_to (items_of l.history) l.caller))
+abbrev pub invariant-loop-before : goal.invariant-loop-before
+invariant-loop-before l = l.outputs ≡ drop l.first (take l.before (sent_to (items_of l.history) l.caller))

@@ -74,6 +74,16 @@ returns-clause-cause g c =
     (c.shut_slots.ensures.stops c.args.plan.now.stop_after s.ensures.stopped) (rw (← c.as_slice.ensures.value) c.ended_slots.ensures.found) s.ensures.stops s.ensures.loader c.close-authority.ensures.legal
     wb wt mb (omega (arith, wt, grown)) zb (omega (arith, learned, equal, top))
 
+pub returns-clause-loaded : goal.returns-clause-loaded
+returns-clause-loaded g c =
+    let s = c.serve_beside_loader-zero in
+    let m = c.meet in
+    let journal = in_order c.close-authority.result.history in
+    let second = learned_prefix s.result.zero m.new.second m.ensures.second in
+    let known : IsPrefix s.result.zero.history m.new.first.history = subst (λ (h : List Item). IsPrefix s.result.zero.history h) (sym m.ensures.equal.0) second in
+    let zb = prefix_trans s.result.zero.history m.new.first.history journal known c.close-authority.ensures.begins in
+    (s.result.loader, record { from = g.F.Tree.faults c.args.tree.now; until = s.result.tree_faults; before = c.args.zero; after = s.result.zero; begins = zb; loads = s.ensures.loader })
+
 pub returns-clause-whole : goal.returns-clause-whole
 returns-clause-whole g c =
     let s = c.serve_beside_loader-zero in

@@ -3,6 +3,7 @@ use Rattle.std.proofs.Common.{◌≡◌, ◌++◌, ◌+◌, ◌≤◌, [], List,
 use Rattle.std.specs.Prelude.{All, map}
 use Rattle.std.specs.List.{flat_map}
 use Rattle.std.specs.Vec.{vec_capacity}
+use Rattle.history_lock.specs.declared.machine.TheConstants.{MOST_PASSES}
 use Rattle.connection_laws.specs.Knowing.{KnowsMore}
 use Rattle.pk_outside.specs.Doors.{DoorTold}
 use Rattle.service_slots.specs.Doors.{DoorsAreDone}
@@ -14,7 +15,7 @@ use Rattle.authority_service.proofs.shutting.shut_slots.Given as goal
 abbrev pub invariant-loop-slot : goal.invariant-loop-slot
 invariant-loop-slot g l = record {
   knows : KnowsMore l.initial.control l.control;
-  top : l.control.made ≤ 1048576;
+  top : l.control.made ≤ MOST_PASSES;
   later : g.N.Station.faults l.initial.station ≤ g.N.Station.faults l.station;
   room : vec_len l.shut + length l.slot-iterator.rest.items ≤ vec_capacity l.shut;
   doors : (doors : List (Option DoorTold)) × ShutsAll (g.N.Station.told l.initial.station) (g.N.Station.told l.station) doors

@@ -38,7 +38,7 @@ returns-in-Ok-open_slots-clause-ran g c = λ first begins.
     })
     (doors_back plan (vec_len c.open_slots.new.slots) t0 t1 t2 _ doors opens shuts same)
     (c.in-Ok-open_slots.ensures.all ∙ ap (λ (ps : List DoorPath). length ps * plan.slots) c.as_slice.ensures.items)
-    r.all r.cause r.whole r.stops o.cause.later
+    r.all r.cause r.loaded r.whole r.stops o.cause.later
     (λ served. record {
       where_told = (λ t e.
           let (mid, mid_is, backs, shut, told, left) = shuts.where_told t e in

@@ -1,6 +1,6 @@
 use Rattle.std.proofs.Common.{ap, ◌∙◌, length}
 use Rattle.std.specs.Prelude.{unwrap_or}
-use Rattle.authority_model.specs.Words.{is_blank}
+use Rattle.pk_types.specs.Text.{is_blank}
 use Rattle.check_decision.proofs.FirstWord.{unwrap_or-position, place-within}
 use Rattle.check_decision.proofs.words.front_len.Goals as goal
 

@@ -1,4 +1,5 @@
 use Rattle.std.proofs.Common.{◌≤◌, ℕ, subst}
+use Rattle.history_lock.specs.declared.machine.TheConstants.{MOST_PASSES}
 use Rattle.connection_reader.specs.Reading.{Hand, hand}
 use Rattle.connection_serve.proofs.Causes.{reader_faults}
 use Rattle.connection_serve.proofs.Serving.{halves_met}
@@ -20,7 +21,7 @@ returns-clause-meets g c =
       end_is = c.end_of.ensures;
       halves = halves_met limits c.args.uid s t (g.I.Source.ended new.source) c.args.collector.now new.collector (g.O.Sink.held c.args.sink.now) (g.O.Sink.held new.sink)
           (g.I.Source.faults c.args.source.now) (g.I.Source.faults new.source) (g.O.Sink.faults c.args.sink.now) (g.O.Sink.faults new.sink) b.1 b.0 c.meet.new.first c.meet.new.second
-          c.requires.connection m.first m.second m.top (subst (λ (k : ℕ). k ≤ 1048576) m.equal.1 m.top)
+          c.requires.connection m.first m.second m.top (subst (λ (k : ℕ). k ≤ MOST_PASSES) m.equal.1 m.top)
           (record {
             reads = e.reads;
             read_cause = reader_faults g.I.Source.left g.I.Source.faults c.args.source.now new.source b.1 e.faults;

@@ -1,4 +1,5 @@
 use Rattle.std.proofs.Common.{◌≡◌, ℕ, List, ◌++◌, length, sym, ap, ◌∙◌, arith, rules, refl}
+use Rattle.dbus_values.specs.declared.codes.TheConstants.{MAX_MESSAGE}
 use Rattle.dbus_values.specs.declared.value.Value.{Value, Entry, Variant, the_lemmas}
 use Rattle.dbus_values.specs.Trees as trees
 use Rattle.dbus_values.specs.Basics.{gap}
@@ -15,7 +16,7 @@ loop-item-init t c = record {
 }
 
 pub put_value-requires : goal.put_value-requires
-put_value-requires t c = (search (rules, the_lemmas), ((drop_form _ c.loop-item.item-index _ c.loop-item-test.true (sym c.item-item.is) c.loop-item.invariant.forms).0, next_short _ c.loop-item.item-index _ _ _ 16777216 c.loop-item-test.true (sym c.item-item.is) c.loop-item.invariant.so_far c.loop-item.invariant.short))
+put_value-requires t c = (search (rules, the_lemmas), ((drop_form _ c.loop-item.item-index _ c.loop-item-test.true (sym c.item-item.is) c.loop-item.invariant.forms).0, next_short _ c.loop-item.item-index _ _ _ MAX_MESSAGE c.loop-item-test.true (sym c.item-item.is) c.loop-item.invariant.so_far c.loop-item.invariant.short))
 
 pub loop-member-init : goal.loop-member-init
 loop-member-init t c = record {
@@ -25,7 +26,7 @@ loop-member-init t c = record {
 }
 
 pub put_value-requires-in-loop-member : goal.put_value-requires-in-loop-member
-put_value-requires-in-loop-member t c = (search (rules, the_lemmas), ((drop_form _ c.loop-member.member-index _ c.loop-member-test.true (sym c.member-item.is) c.loop-member.invariant.forms).0, next_short _ c.loop-member.member-index _ _ _ 16777216 c.loop-member-test.true (sym c.member-item.is) c.loop-member.invariant.so_far c.loop-member.invariant.short))
+put_value-requires-in-loop-member t c = (search (rules, the_lemmas), ((drop_form _ c.loop-member.member-index _ c.loop-member-test.true (sym c.member-item.is) c.loop-member.invariant.forms).0, next_short _ c.loop-member.member-index _ _ _ MAX_MESSAGE c.loop-member-test.true (sym c.member-item.is) c.loop-member.invariant.so_far c.loop-member.invariant.short))
 
 pub returns-after-loop-item : goal.returns-after-loop-item
 returns-after-loop-item t c = record { exact = array_done c.in-Array.of c.in-Array.items c.args.value.now _ _ c.loop-item.item-index _ _ _ _ _ _ _ _ c.in-Array.is c.deref-item-items.ensures.value c.loop-item-test.false c.bytes.ensures.bytes c.in_ok-pad_to-in-Array.ensures.exact c.in_ok-put_u32-in-Array.ensures.exact (c.in_ok-pad_to-in-Array-2.ensures.exact ∙ ap (λ (n : ℕ). c.put_u32.new.out.items ++ padding (gap n (length c.put_u32.new.out.items))) c.item_align.ensures.exact) c.loop-item.invariant.so_far c.length_of-at.ensures.exact (omega (arith, c.length_of.ensures.exact, c.length_of-start.ensures.exact)) c.patch.ensures.exact }

@@ -32,8 +32,8 @@ returns-in-Some g c =
           let trusts = sym c.if-not-trusts.false ∙ c.trusts.ensures.trusts past is known in
           subst (λ (ys : List Output). IfOk c.tell.result (λ a. a.outputs ≡ ys)) (told ∙ ap (λ b. if b then rest else refuse say ErrorCause.NotTrusted) trusts) (c.tell.ensures.outputs past is);
       change = λ past is known.
-          let rest : Option Pending = option_and_then (λ v. opened_told past check f (decided past (kept past) f t check.action.now v)) (implicit_for past f check.action.now) in
-          let told : opened_told past check f d ≡ rest = then_by (decided past (kept past) f t check.action.now) (opened_told past check f) (implicit_for past f check.action.now) d (c.in-Some.ensures.decision past is.seen) in
+          let rest : Option Pending = option_and_then (λ v. opened_told f (decided past (kept past) f t check.action.now v) past check) (implicit_for past f check.action.now) in
+          let told : opened_told f d past check ≡ rest = then_by (decided past (kept past) f t check.action.now) (λ d. opened_told f d past check) (implicit_for past f check.action.now) d (c.in-Some.ensures.decision past is.seen) in
           let trusts = sym c.if-not-trusts.false ∙ c.trusts.ensures.trusts past is known in
           subst (λ (ch : EntryChange). IfOk c.tell.result (λ a. a.change ≡ ch)) (ap begun_if (told ∙ ap (λ b. if b then rest else None) trusts)) (c.tell.ensures.change past is);
     }

@@ -13,7 +13,7 @@ returns-in-Ok g c =
     let x = c.args.asking in
     record {
       outputs = λ past is. subst (λ (ys : List Output). IfOk c.enumerate_for.result (λ a. a.outputs ≡ ys)) (sym (known_then past x.to.caller c.args.subject.now (reply_of x.to) (facts_seen c.in-Ok.facts) (λ f. reply_of x.to (Answer.Grants (live_grants past x.occasion.moment f.key))) (c.in-Ok.ensures.facts past is))) (c.enumerate_for.ensures.outputs past is);
-      change = λ past. c.enumerate_for.ensures.change;
+      change = c.enumerate_for.ensures.change;
     }
 
 pub returns-in-Err : goal.returns-in-Err
@@ -21,5 +21,5 @@ returns-in-Err g c =
     let x = c.args.asking in
     record {
       outputs = λ past is. subst (λ (ys : List Output). IfOk c.refuse.result (λ a. a.outputs ≡ ys)) (sym (known_else past x.to.caller c.args.subject.now (reply_of x.to) c.in-Err.cause (λ f. reply_of x.to (Answer.Grants (live_grants past x.occasion.moment f.key))) (c.in-Err.ensures.facts past is))) c.refuse.ensures.outputs;
-      change = λ past. c.refuse.ensures.change;
+      change = c.refuse.ensures.change;
     }

@@ -1,4 +1,5 @@
 use Rattle.std.proofs.Common.{◌≡◌, ℕ, [], refl, ap, ◌∙◌, subst, length, arith}
+use Rattle.journal_scan.specs.declared.counts.TheConstants.{PLACES}
 use Rattle.journal_scan.specs.Standing.{place_of, totals_in}
 use Rattle.journal_scan.specs.Tables.{IsTable}
 use Rattle.journal_scan.proofs.Lining.{each_below}
@@ -28,7 +29,7 @@ returns c = record {
         empty = tt;
       }) in
       let rows = told.tallies.sized in (
-        record { differ = c.if-not-mark_all.ensures.differ refl; few = each_below (length places) 1048576 lines (omega (arith, sized, at_most)) few; belong = told.belong; due = told.due; empty = told.empty },
+        record { differ = c.if-not-mark_all.ensures.differ refl; few = each_below (length places) PLACES lines (omega (arith, sized, at_most)) few; belong = told.belong; due = told.due; empty = told.empty },
         record { tallies = table_sized told.tallies; others = (λ n beyond. told.others n (omega (arith, rows, beyond))); totals = c.totals-totals.ensures.totals ∙ ap totals_in told.loading },
         each_below (length places) _ lines (omega (arith, sized, rows)) few,
       ));

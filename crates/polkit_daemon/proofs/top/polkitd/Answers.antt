@@ -39,7 +39,7 @@ pub returns-in-Some-Pipe-clause-pipe : goal.returns-in-Some-Pipe-clause-pipe
 returns-in-Some-Pipe-clause-pipe g c = λ uid root entries is.
     let read_is = ap (option_map command_seen) (c.in-Some-Pipe.is ∙ ap Some c.in-Some-Pipe.field-0-is) in
     let named = c.read.ensures.command ∙ is in
-    subst (λ (p : Plan). PipesMade p (g.T.Tree.faults c.args.tree.now) (g.T.Tree.faults c.pipe.new.tree) (g.N.Station.told c.args.station.now) (g.I.Source.left c.args.input.now) (g.I.Source.left c.pipe.new.input) (g.I.Source.ended c.pipe.new.input) (g.O.Sink.held c.args.output.now) (g.O.Sink.held c.pipe.new.output) c.pipe.result)
+    subst (λ (p : Plan). PipesMade p (g.T.Tree.faults c.args.tree.now) (g.T.Tree.faults c.pipe.new.tree) (g.N.Station.told c.args.station.now) (g.N.Station.told c.salt-salt.new.self) (g.I.Source.left c.args.input.now) (g.I.Source.left c.pipe.new.input) (g.I.Source.ended c.pipe.new.input) (g.O.Sink.held c.args.output.now) (g.O.Sink.held c.pipe.new.output) c.pipe.result)
     (same_plan (g.T.Tree.told c.args.tree.now) _ c.in-Some-Pipe.uid uid _ root c.in-Some-Pipe.entries entries read_is named)
     (record {
       clock_before = _;
@@ -47,7 +47,6 @@ returns-in-Some-Pipe-clause-pipe g c = λ uid root entries is.
       salt_before = _;
       salt = supply (g.N.Salt.Salt.left c.pipe.new.salt) (g.N.Salt.Salt.gave c.pipe.new.salt);
       with_clock = _;
-      with_both = _;
       makes_clock = c.clock-clock.ensures.clock;
       makes_salt = c.salt-salt.ensures.salt;
       run = subst (λ (l : Limits). PipesFrom (record { uid = c.in-Some-Pipe.uid; root = c.in-Some-Pipe.root.now; told = g.T.Tree.told c.args.tree.now; limits = l }) (g.T.Tree.faults c.args.tree.now) (g.T.Tree.faults c.pipe.new.tree) (traffic (g.I.Source.left c.args.input.now) (g.I.Source.left c.pipe.new.input) (g.I.Source.ended c.pipe.new.input) (g.O.Sink.held c.args.output.now) (g.O.Sink.held c.pipe.new.output) (supply (g.N.Clock.Clock.left c.clock-clock.result) (g.N.Clock.Clock.gave c.clock-clock.result)) (supply (g.N.Clock.Clock.left c.pipe.new.clock) (g.N.Clock.Clock.gave c.pipe.new.clock)) (supply (g.N.Salt.Salt.left c.salt-salt.result) (g.N.Salt.Salt.gave c.salt-salt.result)) (supply (g.N.Salt.Salt.left c.pipe.new.salt) (g.N.Salt.Salt.gave c.pipe.new.salt))) c.pipe.result) c.limits_of-limits.ensures.limits c.pipe.ensures.run;

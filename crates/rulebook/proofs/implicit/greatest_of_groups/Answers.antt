@@ -1,5 +1,5 @@
 use Rattle.std.proofs.Common.{◌-◌, arith, sym, ◌∙◌}
-use Rattle.rulebook.specs.Rules.{rule_seen}
+use Rattle.policy_decide.specs.Walks.{rule_seen}
 use Rattle.policy_decide.proofs.Lasts.{greatest-take, or_else-of_none, or_else-of_some}
 use Rattle.rulebook.proofs.implicit.greatest_of_groups.Goals as goal
 

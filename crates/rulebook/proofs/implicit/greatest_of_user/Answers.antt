@@ -1,8 +1,7 @@
 use Rattle.std.proofs.Common.{◌∙◌, sym, ap, refl, option_map}
 use Rattle.std.specs.List.{flat_map}
 use Rattle.authority_model.specs.Rules.{greatest}
-use Rattle.policy_decide.specs.Walks.{group_places}
-use Rattle.rulebook.specs.Rules.{rule_seen}
+use Rattle.policy_decide.specs.Walks.{group_places, rule_seen}
 use Rattle.policy_decide.proofs.Lasts.{greatest-own, or_else-of_none, or_else-of_some}
 use Rattle.rulebook.proofs.implicit.greatest_of_user.Goals as goal
 

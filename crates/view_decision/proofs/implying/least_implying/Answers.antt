@@ -5,7 +5,8 @@ use Rattle.std.proofs.lemmas.List.{take_all}
 use Rattle.authority_model.specs.Facts.{facts_seen}
 use Rattle.authority_model.specs.Grants.{kept}
 use Rattle.authority_model.specs.Words.{least_text}
-use Rattle.check_decision.proofs.LeastAction.{counted, least_found, least_walked, least_taken, least_kept}
+use Rattle.view_decision.specs.Implying.{counted}
+use Rattle.view_decision.proofs.LeastAction.{least_found, least_walked, least_taken, least_kept}
 use Rattle.view_decision.proofs.implying.least_implying.Goals as goal
 use Rattle.view_decision.proofs.implying.least_implying.Goals.{then-counts, else-counts}
 

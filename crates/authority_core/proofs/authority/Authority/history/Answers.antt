@@ -7,4 +7,4 @@ use Rattle.authority_laws.proofs.Tracing.{access}
 use Rattle.authority_core.proofs.authority.Authority.history.Goals as goal
 
 pub returns-clause-licensed : goal.returns-clause-licensed
-returns-clause-licensed c = subst (λ (j : Journal). AllLicensed (items_of j.history)) c.self.view_is (access _ c.self.invariant.sound.legal.items)
+returns-clause-licensed c = subst (λ (j : Journal). AllLicensed (items_of j.history)) c.self.view_is (access _ c.self.invariant.legal.items)

@@ -7,7 +7,7 @@ pub returns-in-Ok-clause-ok : goal.returns-in-Ok-clause-ok
 returns-in-Ok-clause-ok c = λ past has.
     let g = load_given 0 0 c.args.loaded in
     let newest = newest_is past c.args.self.now.authority.history c.load.new.self.history g c.in-Some.entry.now c.in-Ok.place has.items c.in-Ok.ensures.entry c.in-Ok.ensures.place c.in-Some.ensures.entry in
-    has_next past c.args.self.now _ g has c.in-Ok.ensures.limits c.in-Ok.ensures.grows (c.in_ok-add-in-Ok.ensures.added past (next past g) has.tally newest)
+    has_next past c.args.self.now _ g has c.in-Ok.ensures.limits c.in-Ok.ensures.grows (c.in_ok-add-in-Ok.ensures.added past (next past g) has.summary newest)
 
 pub returns-in-Err-JournalFull-clause-stop : goal.returns-in-Err-JournalFull-clause-stop
 returns-in-Err-JournalFull-clause-stop c = λ past has.

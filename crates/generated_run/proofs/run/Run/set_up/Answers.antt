@@ -1,5 +1,5 @@
 -- What stops a step of the setup stops the setup.
-use Rattle.std.proofs.Common.{List, []}
+use Rattle.std.proofs.Common.{[]}
 use Rattle.generated_run.proofs.Leading.{err_stops, loaded, loaded_leads, root_in, root_leads, users_in, users_lead}
 use Rattle.generated_run.proofs.Steps.{set_up_is}
 use Rattle.generated_run.proofs.run.Run.set_up.Goals as goal

@@ -1,6 +1,7 @@
 use Rattle.std.proofs.Common.{◌≡◌, ◌<◌, ℕ, suc, List, sym, ap, ◌∙◌, subst, arith}
 use mathlib.Core.Option.{some}
 use lib.ListN.{get_elem?}
+use Rattle.history_lock.specs.declared.machine.TheConstants.{MOST_PASSES}
 use Rattle.history_lock.specs.Entries.{NoneBy}
 use Rattle.history_lock.specs.declared.view.View.{View}
 use Rattle.history_lock.proofs.Knowing.{told_ended}
@@ -14,7 +15,7 @@ returns-then-self-ge-MOST_PASSES-clause-full g c =
     let s = c.settle_receipt.ensures in
     let t = c.take_note_of_book.ensures in
     let knows = s.made in
-    let all : c.self.inside.made ≡ 1048576 = omega (arith, inv.2) in (
+    let all : c.self.inside.made ≡ MOST_PASSES = omega (arith, inv.2) in (
       all,
       t.made ∙ s.book_made ∙ inv.1.made ∙ all,
       learned_told m.caller_of m.legal c.args.pass.now c.settle_receipt.new.pass c.take_note_of_book.new.pass c.self.inside.book.me.0.history c.settle_receipt.new.book.me.0.history c.settle_receipt.new.book.me.0.in_flight

@@ -1,4 +1,5 @@
 use Rattle.std.proofs.Common.{◌≤◌, ◌∙◌, ap, sym, refl, subst}
+use Rattle.authority_model.specs.declared.journal.TheConstants.{MAX_ENTRIES}
 use Rattle.authority_model.specs.declared.journal.Item.{Item}
 use Rattle.authority_model.specs.declared.journal.Limits.{Limits}
 use Rattle.authority_model.specs.Items.{items_of}
@@ -31,7 +32,7 @@ returns-in-Ok-clause-ok g c =
     let e = c.in-Ok.ensures in
     let given = event_given c.args.caller c.in-Step.moment c.in-Step.salt c.in-Step.event in
     let i : Item = next (items_of h) given in
-    let few = subst (λ (l : Limits). l.entries ≤ 1048576) (sym c.args.self.now.named) c.args.self.now.few in (
+    let few = subst (λ (l : Limits). l.entries ≤ MAX_ENTRIES) (sym c.args.self.now.named) c.args.self.now.few in (
       i,
       order_grows h c.step.new.self.history given e.grows,
       refl,
@@ -45,7 +46,7 @@ returns-in-Ok-load-clause-ok g c =
     let e = c.in-Ok-load.ensures in
     let given = load_given c.args.caller c.in-Load.moment c.in-Load.loaded in
     let i : Item = next (items_of h) given in
-    let few = subst (λ (l : Limits). l.entries ≤ 1048576) (sym c.args.self.now.named) c.args.self.now.few in (
+    let few = subst (λ (l : Limits). l.entries ≤ MAX_ENTRIES) (sym c.args.self.now.named) c.args.self.now.few in (
       i,
       order_grows h c.load.new.self.history given e.grows,
       refl,
@@ -87,7 +88,7 @@ returns-in-Ok-collect-clause-ok g c =
     let e = c.in-Ok-collect.ensures in
     let given = collect_given c.args.caller c.in-Collect.of in
     let i : Item = next (items_of h) given in
-    let few = subst (λ (l : Limits). l.entries ≤ 1048576) (sym c.args.self.now.named) c.args.self.now.few in (
+    let few = subst (λ (l : Limits). l.entries ≤ MAX_ENTRIES) (sym c.args.self.now.named) c.args.self.now.few in (
       i,
       order_grows h c.collect.new.self.history given e.grows,
       refl,

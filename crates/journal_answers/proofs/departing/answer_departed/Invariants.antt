@@ -1,7 +1,0 @@
-use Rattle.std.proofs.Common.{◌≡◌, ◌++◌, take}
-use Rattle.std.specs.List.{flat_map}
-use Rattle.authority_model.specs.Answers.{answer_departed}
-use Rattle.journal_answers.proofs.departing.answer_departed.Given as goal
-
-abbrev pub invariant-loop-challenge : goal.invariant-loop-challenge
-invariant-loop-challenge l = l.outputs ≡ l.fn.outputs ++ flat_map (answer_departed l.caller) (take l.challenge-index l.challenges)
