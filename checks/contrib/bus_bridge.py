@@ -296,7 +296,7 @@ def ends(told, bus, daemon, bridge):
 
 
 def full(told, bus, programs, folder):
-    """A daemon whose journal is full: who asks is refused, and nobody waits without an end."""
+    """A daemon whose journal is full ends, and the bridge with it: who asks is refused, and nobody waits without an end."""
     with Daemon(programs.polkitd, folder, f'{ME}:mine', words=('--entries', '60')) as daemon:
         told.same('full: the daemon listens', daemon.listens(), True)
         bridge, found, begin = bus.bridge(daemon, '--idle', '0.5'), [], time.monotonic()
@@ -307,8 +307,8 @@ def full(told, bus, programs, folder):
                 break
         refused = {answer for answer in found if isinstance(answer, str)}
         told.same('full: the first are answered', all(isinstance(answer, tuple) for answer in found[:10]), True)
-        told.same('full: then they are refused', (found[-1] in refused, refused - {NAME + 'Error.Failed', BUS + '.Error.LimitsExceeded'}), (True, set()))
-        told.same('full: the bridge says nothing', bridge.send_signal(signal.SIGTERM) or (bridge.wait(PATIENCE), bridge.stderr.read()), (0, ''))
+        told.same('full: then they are refused', (found[-1] in refused, refused - {NAME + 'Error.Failed', *(f'{BUS}.Error.{name}' for name in ('LimitsExceeded', 'NoReply', 'ServiceUnknown'))}), (True, set()))
+        told.same('full: the bridge ends', (bridge.wait(PATIENCE), bridge.stderr.read()), (1, 'bus_bridge: the daemon closed the connection\n'))
 
 
 def check(told, programs, folder):

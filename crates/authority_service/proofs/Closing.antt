@@ -59,12 +59,12 @@ pub doors_back : (plan : ServePlan) (count : ℕ) (t0 t1 t2 : Option StationTold
     → OpensFirst plan.doors plan.slots count t0 t1 made → ShutsAll t1 t2 doors → map made_of doors ≡ made → DoorsBack plan count t0 t2
 doors_back plan count t0 t1 t2 made doors opens shuts same_made = record {
   where_told = (λ now e.
-      let (mid, mid_is, backs, shut, doors_are, left) = shuts.where_told now e in
-      let (old, old_is, first_is, behind, same) = opens.where_told mid mid_is in (
+      let (mid, mid_is, backs, doors_are, now_is) = shuts.where_told now e in
+      let (old, old_is, first_is, behind) = opens.where_told mid mid_is in (
         old,
         old_is,
         backs,
-        shut ∙ ap (λ (s : List DoorBack). s ++ backs) same,
+        now_is ∙ ap (λ (s : StationTold). record s { shut = s.shut ++ backs }) behind,
         made_same backs (first_doors plan.doors plan.slots old.doors count) (sym (ap (λ (l : List (Option DoorTold)). map made_of l) doors_are) ∙ (same_made ∙ first_is)),
       ));
 }
@@ -74,13 +74,13 @@ pub opened_done : (paths : List DoorPath) (each count : ℕ) (t0 t1 t2 : Option 
 opened_done paths each count t0 t1 t2 made most opens after = record {
   where_told = (λ now e.
       let (mid, mid_is, backs, shut, done) = after.where_told now e in
-      let (old, old_is, first_is, behind, same) = opens.where_told mid mid_is in
-      (old, old_is, backs, shut ∙ ap (λ (s : List DoorBack). s ++ backs) same, done));
+      let (old, old_is, first_is, behind) = opens.where_told mid mid_is in
+      (old, old_is, backs, shut ∙ ap (λ (s : StationTold). s.shut ++ backs) behind, done));
 }
 
 -- no door was made
 pub doors_none : (plan : ServePlan) (told : Option StationTold) → DoorsBack plan 0 told told
-doors_none plan told = record { where_told = (λ now e. (now, e, [], none now.shut, refl)) }
+doors_none plan told = record { where_told = (λ now e. (now, e, [], ap (λ (s : List DoorBack). record now { shut = s }) (none now.shut), refl)) }
   where
     none : (l : List DoorBack) → l ≡ l ++ []
     none [] = refl
@@ -90,8 +90,8 @@ doors_none plan told = record { where_told = (λ now e. (now, e, [], none now.sh
 pub opened_none : (paths : List DoorPath) (each count : ℕ) (t0 t1 : Option StationTold) (made : List (Option DoorMade)) (H : List Item) → OpensFirst paths each count t0 t1 made → SlotsOf [] t0 [] → SlotsOf H t1 []
 opened_none paths each count t0 t1 made H opens none = record {
   where_told = (λ now e.
-      let (old, old_is, first_is, behind, same) = opens.where_told now e in
-      subst (λ (l : List DoorBack). Slots H l []) (sym same) (unserved old.shut (none.where_told old old_is)));
+      let (old, old_is, first_is, behind) = opens.where_told now e in
+      subst (λ (l : List DoorBack). Slots H l []) (sym (ap (λ (s : StationTold). s.shut) behind)) (unserved old.shut (none.where_told old old_is)));
 }
   where
     unserved : (backs : List DoorBack) → Slots [] backs [] → Slots H backs []

@@ -5,12 +5,12 @@ use Rattle.std.proofs.lemmas.List.{map-append}
 use Rattle.std.proofs.lemmas.List.Elements.{All-push}
 use Rattle.pk_outside.specs.Stations.{StationTold, first_list, other_lists}
 use Rattle.command_line.specs.declared.door.DoorPath.{DoorPath}
-use Rattle.authority_service.specs.Places.{no_path, nth_door, first_doors, OpensFirst}
+use Rattle.authority_service.specs.Places.{no_path, nth_door, first_doors, opened_behind, OpensFirst}
 use Rattle.service_slots.specs.Doors.{DoorMade, OpensDoor}
 
 -- no slot was opened
 pub opens_none : (paths : List DoorPath) (each : ℕ) (told : Option StationTold) → OpensFirst paths each 0 told told []
-opens_none paths each told = record { where_told = (λ now e. (now, e, refl, refl, refl)) }
+opens_none paths each told = record { where_told = (λ now e. (now, e, refl, refl)) }
 
 -- the next slot was opened
 pub opens_next : (paths : List DoorPath) (each k : ℕ) (t0 t1 t2 : Option StationTold) (made : List (Option DoorMade)) (place : DoorPath) (one : Option DoorMade)
@@ -18,16 +18,16 @@ pub opens_next : (paths : List DoorPath) (each k : ℕ) (t0 t1 t2 : Option Stati
     → OpensFirst paths each (suc k) t0 t2 (made ++ one ∷ [])
 opens_next paths each k t0 t1 t2 made place one before here opens = record {
   where_told = (λ now e.
-      let (t, t_is, one_is, doors, shut) = opens.where_told now e in
-      let (old, old_is, made_is, left, same) = before.where_told t t_is in
+      let (t, t_is, one_is, now_is) = opens.where_told now e in
+      let (old, old_is, made_is, left) = before.where_told t t_is in
       let door : Some (record { uid = place.uid; path = place.path; slot = k % each; links = first_list t.doors }) ≡ Some (nth_door paths each old.doors k) =
-      ap (λ (p : DoorPath × List (List (List ℕ))). Some (record { uid = p.0.uid; path = p.0.path; slot = k % each; links = first_list p.1 })) (paired here left) in
+      ap (λ (p : DoorPath × StationTold). Some (record { uid = p.0.uid; path = p.0.path; slot = k % each; links = first_list p.1.doors })) (paired here left) in
       let all : made ++ one ∷ [] ≡ map (λ (d : DoorMade). Some d) (first_doors paths each old.doors k) ++ Some (nth_door paths each old.doors k) ∷ [] =
       ap (λ (m : List (Option DoorMade)). m ++ one ∷ []) made_is ∙ ap (λ (o : Option DoorMade). map (λ (d : DoorMade). Some d) (first_doors paths each old.doors k) ++ o ∷ []) (one_is ∙ door) in
-      (old, old_is, all ∙ sym (map-append (λ (d : DoorMade). Some d) (first_doors paths each old.doors k) (nth_door paths each old.doors k ∷ [])), doors ∙ ap other_lists left, shut ∙ same));
+      (old, old_is, all ∙ sym (map-append (λ (d : DoorMade). Some d) (first_doors paths each old.doors k) (nth_door paths each old.doors k ∷ [])), now_is ∙ ap (λ (s : StationTold). record s { doors = other_lists s.doors; clocks = other_lists s.clocks; salts = other_lists s.salts }) left));
 }
   where
-    paired : {links left : List (List (List ℕ))} → place ≡ slice_index_or paths (k / each) no_path → left ≡ links → (let p : DoorPath × List (List (List ℕ)) = (place, left) in p) ≡ (slice_index_or paths (k / each) no_path, links)
+    paired : {was now : StationTold} → place ≡ slice_index_or paths (k / each) no_path → now ≡ was → (let p : DoorPath × StationTold = (place, now) in p) ≡ (slice_index_or paths (k / each) no_path, was)
     paired a b = cc (a, b)
 
 -- the same of a list whose last slot is the one that was opened

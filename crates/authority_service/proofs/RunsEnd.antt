@@ -32,12 +32,17 @@ use Rattle.authority_service.proofs.Closing.{doors_none, slots_closed, where_non
 use Rattle.authority_service.proofs.FirstLoad.{begins_longer}
 use Rattle.authority_service.proofs.ShutDoors.{told_before}
 
+-- the same limits allow as many entries
+pub within_same : (a b : Limits) (entries : ℕ) → a ≡ b → entries ≤ b.entries → entries ≤ a.entries
+within_same a b entries same within = subst (λ (l : Limits). entries ≤ l.entries) (sym same) within
+
 -- there are no slots, and the lock had ended
 pub closed_run : (plan : ServePlan) (first : Loaded) (out : Objects) (history : History) (slots : List ShutSlot) (kept : Option EndCause) (cause : EndCause)
-    → IsJournal (in_order history) → BeginsWith first (in_order history) → out.station ≡ out.station_before → slots ≡ [] → kept ≡ Some cause → FitsJournal plan.limits cause (in_order history)
+    → IsJournal (in_order history) → length history.entries ≤ plan.limits.entries → BeginsWith first (in_order history) → out.station ≡ out.station_before → slots ≡ [] → kept ≡ Some cause → FitsJournal plan.limits cause (in_order history)
     → HasRun plan first out history slots kept
-closed_run plan first out history slots kept cause legal begins same none is fits = record {
+closed_run plan first out history slots kept cause legal within begins same none is fits = record {
   legal = legal;
+  within = within;
   begins = begins;
   served = (λ unserved.
       rw (same, none) (slots_closed [] (in_order history) out.station_before [] (in_order history, refl) unserved));
@@ -58,7 +63,7 @@ stops_before limits most w from before now slots stops le = λ i d lt.
 
 -- the slots of the plan were served
 pub slots_run : (plan : ServePlan) (limits : Limits) (first : Loaded) (out : Objects) (history : History) (slots : List ShutSlot) (kept : Option EndCause) (made mid : ℕ)
-    → plan.limits ≡ limits → IsJournal (in_order history) → BeginsWith first (in_order history)
+    → plan.limits ≡ limits → IsJournal (in_order history) → length history.entries ≤ limits.entries → BeginsWith first (in_order history)
     → (SlotsOf [] out.station_before [] → SlotsOf (in_order history) out.station (flat_map (λ s. s.lines.items) slots))
     → DoorsBack plan made out.station_before out.station → made ≡ slots_of plan → length slots ≡ made
     → IfSome kept (λ cause. FitsJournal limits cause (in_order history))
@@ -67,8 +72,9 @@ pub slots_run : (plan : ServePlan) (limits : Limits) (first : Loaded) (out : Obj
     → (known : Known Item) × All (λ s. StopTells limits plan.stop_after known mid out.station_faults s.lines.items s.stop) slots
     → out.station_faults_before ≤ mid → (All (λ s. HasServedAll s.stop) slots → DoorsAreDone plan.stop_after out.station_before out.station)
     → HasRun plan first out history slots kept
-slots_run plan limits first out history slots kept made mid same legal begins served back all many cause loaded whole (known, stops) le done = record {
+slots_run plan limits first out history slots kept made mid same legal within begins served back all many cause loaded whole (known, stops) le done = record {
   legal = legal;
+  within = within_same plan.limits limits (length history.entries) same within;
   begins = begins;
   served = served;
   doors = made;

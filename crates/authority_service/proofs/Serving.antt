@@ -33,7 +33,8 @@ use Rattle.authority_service.specs.Ends.{end_of_refused}
 use Rattle.authority_service.specs.Lines.{service_text}
 use Rattle.authority_service.specs.Printing.{IsPrinted, WasPrinted, WasUntold, WrittenAs}
 use Rattle.authority_service.specs.Running.{ended_slot}
-use Rattle.authority_service.specs.Service.{AllServed, HasServed, IsFirst, IsLeft, IsUnbegun, IsUntouched, Left, Outside, Serves, WasWhole, end_of, has_failed_door, has_no_memory, printed}
+use Rattle.authority_service.proofs.ShutDoors.{rose_before}
+use Rattle.authority_service.specs.Service.{AllServed, HasServed, IsFirst, IsLeft, IsUnbegun, IsUntouched, IsWritten, Left, Outside, Serves, WasWhole, end_of, has_failed_door, has_no_memory, printed}
 
 -- some bytes were got, and then others
 pub got_both : (h0 h1 h2 : Option (List ℕ)) (a b : List ℕ) → Got h0 h1 a → Got h1 h2 b → Got h0 h2 (a ++ b)
@@ -131,6 +132,12 @@ wrote_whole : (first : Loaded) (left : Left) (h0 h1 h2 : Option (List ℕ)) (f0 
     → Got h0 h1 (skipped_lines first.faults) → WrittenAs h1 h2 f0 f1 text true → Got h0 h2 (printed first left)
 wrote_whole first left h0 h1 h2 f0 f1 text is before wrote = got_both h0 h1 h2 (skipped_lines first.faults) (service_text (items_of left.journal) left.lines) before (subst (λ (t : List ℕ). Got h1 h2 t) is wrote)
 
+-- the text was written whole, or a front of it was and then the output counted a fault
+wrote_so : (first : Loaded) (left : Left) (out : Outside) (h1 : Option (List ℕ)) (faults : ℕ) (text : List ℕ) (written : Bool) → text ≡ service_text (items_of left.journal) left.lines
+    → Got out.held_before h1 (skipped_lines first.faults) → out.write_faults_before ≤ faults → WrittenAs h1 out.held faults out.write_faults text written → IsWritten out (printed first left)
+wrote_so first left out h1 faults text true is before later wrote = inl (wrote_whole first left out.held_before h1 out.held faults out.write_faults text is before wrote)
+wrote_so first left out h1 faults text false is before later wrote = inr (wrote_front first left out.held_before h1 out.held faults out.write_faults text false is before wrote, rose_before out.write_faults_before faults out.write_faults later wrote.1)
+
 -- the tree and the station of a service
 abbrev pub objects_of : Outside → Objects
 objects_of out = record {
@@ -152,7 +159,7 @@ lines_or slots (inr holds) = inr holds
 
 -- what holds of what was left
 is_left : (plan : ServePlan) (first : Loaded) (out : Outside) (history : History) (slots : List ShutSlot) (kept : Option EndCause) (run : HasRun plan first (objects_of out) history slots kept) → IsLeft plan out (left_of history slots run.doors)
-is_left plan first out history slots kept run = record { legal = run.legal; licensed = access (items_of history) run.legal.history; slots = run.served; doors = run.back; loaded = lines_or slots run.loaded }
+is_left plan first out history slots kept run = record { legal = run.legal; within = run.within; licensed = access (items_of history) run.legal.history; slots = run.served; doors = run.back; loaded = lines_or slots run.loaded }
 
 -- the lock was not ended
 was_whole : (plan : ServePlan) (first : Loaded) (out : Outside) (history : History) (slots : List ShutSlot) (text : List ℕ) (run : HasRun plan first (objects_of out) history slots None)
@@ -173,10 +180,10 @@ doors_done plan first out history slots run memory failed =
     let stopped = (run.whole refl).stopped in
     stopped.done (all_served plan.limits plan.stop_after stopped.known out.station_faults_before out.station_faults slots stopped.stops stopped.none_ended memory failed)
 
--- the service was served, and what it printed is a front of its text
+-- the service was served, and its text was written
 served_so : (plan : ServePlan) (first : Loaded) (out : Outside) (history : History) (slots : List ShutSlot) (kept : Option EndCause) (text : List ℕ) (run : HasRun plan first (objects_of out) history slots kept)
     → IsFirst plan out first → IsPrinted (items_of history) (flat_map (λ s. s.lines.items) slots) (length slots) kept text
-    → GotFront out.held_before out.held (printed first (left_of history slots run.doors)) → HasServed plan out first (left_of history slots run.doors)
+    → IsWritten out (printed first (left_of history slots run.doors)) → HasServed plan out first (left_of history slots run.doors)
 served_so plan first out history slots kept text run is_first told written = record {
   is_first = is_first;
   is_left = is_left plan first out history slots kept run;
@@ -193,12 +200,12 @@ serves_by : (plan : ServePlan) (first : Loaded) (out : Outside) (history : Histo
     → WrittenAs h1 out.held faults out.write_faults text written → Serves plan out (end_of kept slots written)
 serves_by plan first out history slots (Some (cause.JournalFull entries bytes)) text h1 faults run is_first told before later no_memory failed written n d wrote =
     let left = left_of history slots run.doors in
-    record { first = first; left = left; served = served_so plan first out history slots (Some (cause.JournalFull entries bytes)) text run is_first told (wrote_front first left out.held_before h1 out.held faults out.write_faults text written told.text_is before wrote); more = run.cause }
+    record { first = first; left = left; served = served_so plan first out history slots (Some (cause.JournalFull entries bytes)) text run is_first told (wrote_so first left out h1 faults text written told.text_is before later wrote); more = run.cause }
 serves_by plan first out history slots (Some (cause.Admissions admitted)) text h1 faults run is_first told before later no_memory failed written n d wrote =
     let left = left_of history slots run.doors in
     let few = run.few in
     let many = told.passes admitted refl in
-    record { first = first; left = left; served = served_so plan first out history slots (Some (cause.Admissions admitted)) text run is_first told (wrote_front first left out.held_before h1 out.held faults out.write_faults text written told.text_is before wrote); more = (run.cause, omega (arith, few, many)) }
+    record { first = first; left = left; served = served_so plan first out history slots (Some (cause.Admissions admitted)) text run is_first told (wrote_so first left out h1 faults text written told.text_is before later wrote); more = (run.cause, omega (arith, few, many)) }
 serves_by plan first out history slots (Some cause.NoMemory) text h1 faults run is_first told before later no_memory failed written n d wrote =
     let left = left_of history slots run.doors in
     inr (inr (record { first = first; is_first = is_first; left = left; is_left = is_left plan first out history slots (Some cause.NoMemory) run; begins = run.begins; written = wrote_front first left out.held_before h1 out.held faults out.write_faults text written told.text_is before wrote }))
@@ -210,17 +217,17 @@ serves_by plan first out history slots None text h1 faults run is_first told bef
     let whole = run.whole refl in
     rw (n, d) (
       any_rose plan.limits plan.stop_after whole.stopped.known out.station_faults_before out.station_faults slots whole.stopped.stops d,
-      inr (record { first = first; left = left; served = served_so plan first out history slots None text run is_first told (wrote_front first left out.held_before h1 out.held faults out.write_faults text written told.text_is before wrote); more = was_whole plan first out history slots text run told }),
+      inr (record { first = first; left = left; served = served_so plan first out history slots None text run is_first told (wrote_so first left out h1 faults text written told.text_is before later wrote); more = was_whole plan first out history slots text run told }),
     )
 serves_by plan first out history slots None text h1 faults run is_first told before later false false true n d wrote =
     let left = left_of history slots run.doors in
-    rw (n, d) (record { first = first; left = left; served = served_so plan first out history slots None text run is_first told (wrote_front first left out.held_before h1 out.held faults out.write_faults text true told.text_is before wrote); more = (was_whole plan first out history slots text run told, doors_done plan first out history slots run n d, wrote_whole first left out.held_before h1 out.held faults out.write_faults text told.text_is before wrote) })
+    rw (n, d) (record { first = first; left = left; served = served_so plan first out history slots None text run is_first told (wrote_so first left out h1 faults text true told.text_is before later wrote); more = (was_whole plan first out history slots text run told, doors_done plan first out history slots run n d, wrote_whole first left out.held_before h1 out.held faults out.write_faults text told.text_is before wrote) })
 serves_by plan first out history slots None text h1 faults run is_first told before later false false false n d wrote =
     let left = left_of history slots run.doors in
     let rose = wrote.1 in
     rw (n, d) (
       omega (arith, later, rose),
-      inr (record { first = first; left = left; served = served_so plan first out history slots None text run is_first told (wrote_front first left out.held_before h1 out.held faults out.write_faults text false told.text_is before wrote); more = (was_whole plan first out history slots text run told, doors_done plan first out history slots run n d) }),
+      inr (record { first = first; left = left; served = served_so plan first out history slots None text run is_first told (wrote_so first left out h1 faults text false told.text_is before later wrote); more = (was_whole plan first out history slots text run told, doors_done plan first out history slots run n d) }),
     )
 
 -- a service whose slots ended, once its lines were printed
@@ -238,7 +245,7 @@ serves_told plan first out history slots kept h1 faults e run is_first before la
 
 -- a service that was cut short before there was a connection
 pub unbegun_short : (plan : ServePlan) (first : Loaded) (out : Outside) (objects : Objects) (why : Unbegun) → objects.station_before ≡ out.station_before → objects.station ≡ out.station
-    → IsShort plan objects why → IsFirst plan out first → GotFront out.held_before out.held (skipped_lines first.faults) → IsUnbegun plan out
+    → IsShort plan objects why → IsFirst plan out first → IsWritten out (skipped_lines first.faults) → IsUnbegun plan out
 unbegun_short plan first out objects why before now short is_first written = record {
   first = first;
   is_first = is_first;

@@ -22,23 +22,22 @@ use Rattle.authority_service.specs.Shutting.{ShutsAll}
 
 -- no slot was shut
 pub shuts_none : (told : Option StationTold) → ShutsAll told told []
-shuts_none told = record { where_told = (λ now e. (now, e, [], sym (append-nil now.shut), refl, refl)) }
+shuts_none told = record { where_told = (λ now e. (now, e, [], refl, sym (ap (λ (s : List DoorBack). record now { shut = s }) (append-nil now.shut)))) }
 
 -- the next slot was shut
 pub shuts_next : (t0 t1 t2 : Option StationTold) (doors : List (Option DoorTold)) (one : Option DoorTold) → ShutsAll t0 t1 doors → ShutsDoor t1 t2 one → ShutsAll t0 t2 (doors ++ one ∷ [])
 shuts_next t0 t1 t2 doors one before shuts = record {
   where_told = (λ now e.
-      let (t, t_is, back, shut, one_is, left_is) = shuts.where_told now e in
-      let (old, old_is, backs, was, doors_are, left) = before.where_told t t_is in
+      let (t, t_is, back, one_is, now_is) = shuts.where_told now e in
+      let (old, old_is, backs, doors_are, was) = before.where_told t t_is in
       let f = λ (b : DoorBack). Some b.door in
       let all : doors ++ one ∷ [] ≡ map f backs ++ Some back.door ∷ [] =
       ap (λ (m : List (Option DoorTold)). m ++ one ∷ []) doors_are ∙ ap (λ (o : Option DoorTold). map f backs ++ o ∷ []) one_is in (
         old,
         old_is,
         backs ++ back ∷ [],
-        shut ∙ ap (λ (s : List DoorBack). s ++ back ∷ []) was ∙ append_assoc old.shut backs (back ∷ []),
         all ∙ sym (map-append f backs (back ∷ [])),
-        left_is ∙ left,
+        now_is ∙ (ap (λ (s : StationTold). record s { shut = s.shut ++ back ∷ [] }) was ∙ ap (λ (s : List DoorBack). record old { shut = s }) (append_assoc old.shut backs (back ∷ []))),
       ));
 }
 

@@ -76,6 +76,7 @@ pub record RanWhole (plan : ServePlan) (out : Objects) (history : History) (slot
 -- A service that began with this first load left this journal and these slots, with the kept cause of the lock, if it had ended.
 pub record HasRun (plan : ServePlan) (first : Loaded) (out : Objects) (history : History) (slots : List ShutSlot) (kept : Option EndCause) : Type 0 where
   pub legal : IsJournal (in_order history)
+  pub within : length history.entries ≤ plan.limits.entries
   pub begins : BeginsWith first (in_order history)
   pub served : SlotsOf [] out.station_before [] → SlotsOf (in_order history) out.station (flat_map (λ s. s.lines.items) slots)
   pub doors : ℕ

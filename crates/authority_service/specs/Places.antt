@@ -4,10 +4,14 @@ use Rattle.pk_outside.specs.Stations.{StationTold, first_list, other_lists}
 use Rattle.command_line.specs.declared.door.DoorPath.{DoorPath}
 use Rattle.service_slots.specs.Doors.{DoorMade}
 
--- what a station has left to give behind so many doors
-abbrev pub links_behind : List (List (List ℕ)) → ℕ → List (List (List ℕ))
-links_behind links zero = links
-links_behind links (suc k) = other_lists (links_behind links k)
+-- what a station has left to give behind so many doors, clocks or salts
+abbrev pub lists_behind : {A : Type 0} → List (List A) → ℕ → List (List A)
+lists_behind lists zero = lists
+lists_behind lists (suc k) = other_lists (lists_behind lists k)
+
+-- a station that made so many doors, each with a clock and a salt, and nothing else
+abbrev pub opened_behind : StationTold → ℕ → StationTold
+opened_behind old k = record old { doors = lists_behind old.doors k; clocks = lists_behind old.clocks k; salts = lists_behind old.salts k }
 
 -- a path that no plan has
 abbrev pub no_path : DoorPath
@@ -19,7 +23,7 @@ nth_door paths each links k = record {
   uid = (slice_index_or paths (k / each) no_path).uid;
   path = (slice_index_or paths (k / each) no_path).path;
   slot = k % each;
-  links = first_list (links_behind links k);
+  links = first_list (lists_behind links k);
 }
 
 -- the doors of the first k slots
@@ -27,9 +31,9 @@ abbrev pub first_doors : List DoorPath → ℕ → List (List (List ℕ)) → �
 first_doors paths each links zero = []
 first_doors paths each links (suc k) = first_doors paths each links k ++ nth_door paths each links k ∷ []
 
--- The doors of the first k slots were made at a station, in their order, and nothing came back to it.
+-- The doors of the first k slots were made at a station, in their order, each with a clock and a salt, and nothing else; and nothing came back to it.
 pub record OpensFirst (paths : List DoorPath) (each k : ℕ) (before after : Option StationTold) (made : List (Option DoorMade)) : Type 0 where
   pub where_told : (now : StationTold) → after ≡ Some now
       → (old : StationTold) × (before ≡ Some old)
       × (made ≡ map (λ door. Some door) (first_doors paths each old.doors k))
-      × (now.doors ≡ links_behind old.doors k) × (now.shut ≡ old.shut)
+      × (now ≡ opened_behind old k)

@@ -32,7 +32,7 @@ use Rattle.authority_service.specs.declared.ends.ServiceEnd.TheVariants as end
 use Rattle.authority_service.specs.Beginning.{BeginsWith}
 use Rattle.authority_service.specs.Causes.{FitsJournal}
 use Rattle.authority_service.specs.Lines.{scanned, service_text}
-use Rattle.authority_service.specs.Places.{first_doors}
+use Rattle.authority_service.specs.Places.{first_doors, opened_behind}
 use Rattle.authority_service.specs.Running.{HasLoaded, LoadsAll}
 
 -- What the objects of the outside told and counted before a service and after it: its tree, its station and its output.
@@ -71,15 +71,16 @@ pub record Left : Type 0 where
   pub lines : List Line
   pub doors : ℕ
 
--- The doors that came back, behind those before, are the first `count` of the plan, in their order: one for each slot.
+-- The station made the first `count` doors of the plan, each with a clock and a salt, and nothing else. They came back, behind those before, in their order: one for each slot. No link was dialled, and no file was made.
 pub record DoorsBack (plan : ServePlan) (count : ℕ) (before after : Option StationTold) : Type 0 where
   pub where_told : (now : StationTold) → after ≡ Some now
       → (old : StationTold) × (before ≡ Some old) × (backs : List DoorBack)
-      × (now.shut ≡ old.shut ++ backs) × (map (λ back. door_made back.door) backs ≡ first_doors plan.doors plan.slots old.doors count)
+      × (now ≡ record (opened_behind old count) { shut = old.shut ++ backs }) × (map (λ back. door_made back.door) backs ≡ first_doors plan.doors plan.slots old.doors count)
 
--- What holds of the journal and of the lines, whatever the end: the journal is legal, each yes in it is licensed, each line speaks of the link that came back in its place, and where there is a line the loader loaded until it ended.
+-- What holds of the journal and of the lines, whatever the end: the journal is legal and has no more entries than the plan allows, each yes in it is licensed, each line speaks of the link that came back in its place, and where there is a line the loader loaded until it ended.
 pub record IsLeft (plan : ServePlan) (out : Outside) (left : Left) : Type 0 where
   pub legal : IsJournal (in_order left.journal)
+  pub within : length left.journal.entries ≤ plan.limits.entries
   pub licensed : AllLicensed (items_of left.journal)
   -- where no door came back to the station before
   pub slots : SlotsOf [] out.station_before [] → SlotsOf (in_order left.journal) out.station left.lines
@@ -89,6 +90,10 @@ pub record IsLeft (plan : ServePlan) (out : Outside) (left : Left) : Type 0 wher
 -- what a service prints: what the first load skipped, and then the lines of the journal and of the connections
 abbrev pub printed : Loaded → Left → List ℕ
 printed first left = skipped_lines first.faults ++ service_text (items_of left.journal) left.lines
+
+-- The text was written whole, or a front of it was, and then the output counted a fault.
+abbrev pub IsWritten : Outside → List ℕ → Type 0
+IsWritten out text = Got out.held_before out.held text ⊎ (GotFront out.held_before out.held text × Rose out.write_faults_before out.write_faults)
 
 -- the first load is that of the tree, where the tree tells its files
 abbrev pub IsFirst : ServePlan → Outside → Loaded → Type 0
@@ -100,7 +105,7 @@ pub record HasServed (plan : ServePlan) (out : Outside) (first : Loaded) (left :
   pub is_left : IsLeft plan out left
   pub begins : BeginsWith first (in_order left.journal)
   pub orderly : IsOrderly (map scanned left.lines) (items_of left.journal)
-  pub written : GotFront out.held_before out.held (printed first left)
+  pub written : IsWritten out (printed first left)
 
 -- how many slots a plan has
 abbrev pub slots_of : ServePlan → ℕ
@@ -131,14 +136,14 @@ pub record IsUntouched (out : Outside) : Type 0 where
   pub station_faults : out.station_faults ≡ out.station_faults_before
   pub held : out.held ≡ out.held_before
 
--- No connection was served: the doors that were made came back as they were, and a front of what the first load skipped was written.
+-- No connection was served: the doors that were made came back as they were, and what the first load skipped was written.
 pub record IsUnbegun (plan : ServePlan) (out : Outside) : Type 0 where
   pub first : Loaded
   pub is_first : IsFirst plan out first
   pub doors : ℕ
   pub back : DoorsBack plan doors out.station_before out.station
   pub unserved : SlotsOf [] out.station_before [] → SlotsOf [] out.station []
-  pub written : GotFront out.held_before out.held (skipped_lines first.faults)
+  pub written : IsWritten out (skipped_lines first.faults)
 
 -- Memory was refused, whenever that was: nothing was served, or what was left is as always.
 pub record WasCutShort (plan : ServePlan) (out : Outside) : Type 0 where

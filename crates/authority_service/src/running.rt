@@ -54,6 +54,7 @@ impl Ran {
         ensures slots { result.slots.items ≡ [] }
         ensures cause { result.cause ≡ Some cause }
         ensures fits { FitsJournal L.limits cause (in_order result.authority.history) }
+        ensures within { length result.authority.history.entries ≤ L.limits.entries }
     {
         Ran {
             authority: shared.close(pass),
@@ -89,6 +90,7 @@ where
     requires room { vec_len slots ≤ vec_capacity shut }
     requires free_door { IsFree N.Door.Link.Out.allowed }
     ensures legal { IsJournal (in_order result.authority.history) }
+    ensures within { length result.authority.history.entries ≤ L.limits.entries }
     ensures begins { IsPrefix zero.history (in_order result.authority.history) }
     ensures slots { All (λ s. SlotOf s.pass.history (N.Door.owner s.door) (N.Door.told s.door) (N.Clock.gave s.clock) (N.Salt.gave s.salt) s.lines.items) slots.items
         → SlotsOf control.history (N.told station.old) []

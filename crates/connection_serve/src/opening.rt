@@ -29,7 +29,10 @@ pub fn greet<I: Source, O: Sink>(
         return Err(End::NoMemory);
     };
     match open_link(uid, guid, source, sink, &mut buffer) {
-        Opening::Begun => Ok(buffer),
+        Opening::Begun => {
+            source.lift_time_limit();
+            Ok(buffer)
+        }
         Opening::BadShake { fault } => Err(End::BadShake { fault }),
         Opening::Cut => Err(End::ShakeCut),
         Opening::ReadFault => Err(End::ReadFault),

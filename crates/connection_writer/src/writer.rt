@@ -22,6 +22,9 @@ use std::sync::Wait;
 /// began: what was written before is written still. The pass has collected just now, and stood for
 /// something before that.
 ///
+/// Where the lock has ended, or memory was refused, the sink is closed, so that the reading half,
+/// which may wait for more, meets the end.
+///
 /// # Errors
 /// How writing has ended.
 fn write_collected<L: LimitsName, T: TableName, O: Sink, R: Wait>(
@@ -46,10 +49,14 @@ fn write_collected<L: LimitsName, T: TableName, O: Sink, R: Wait>(
         Some(Ok(Collected::Batch(batch))) => match write_batch(alloc, batch, sink) {
             Ok(()) => Ok(true),
             Err(WriteStop::Failed) => Err(WriterEnd::WriteFault),
-            Err(WriteStop::NoMemory) => Err(WriterEnd::NoMemory),
+            Err(WriteStop::NoMemory) => {
+                sink.close();
+                Err(WriterEnd::NoMemory)
+            }
         },
         Some(Err(refused)) => {
             let cause = shared.end(rt, pass, refused.cause());
+            sink.close();
             Err(WriterEnd::Ended { cause })
         }
     }

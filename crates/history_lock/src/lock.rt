@@ -311,6 +311,18 @@ impl<M: Machine, T: TableName> HistoryLock<M, T> {
         kept
     }
 
+    /// The kept cause, where the lock has ended. It fits what the pass then knows. The pass knows the
+    /// kept cause then, if there is one, and else that none was kept when it looked. It takes the lock
+    /// and no memory.
+    pub fn kept_cause<R: Wait>(&self, rt: &R, pass: &mut Pass<M, T>) -> Option<EndCause>
+        ensures fits { IfSome result (λ cause. M.fits cause pass.new.history pass.new.made) }
+        ensures learned { Learned M.caller_of M.legal pass.old pass.new }
+        ensures top { pass.new.made ≤ MOST_PASSES }
+        ensures knows { pass.new.ended ≡ result }
+    {
+        self.take(rt).kept_cause(&self.table, pass)
+    }
+
     /// Two passes tell each other what they know. Both know the longer of the two histories then,
     /// of which the other is a beginning, and neither has an entry more of its own. A kept cause that
     /// one of them knew both know then, and two that both knew are the same. It takes neither the

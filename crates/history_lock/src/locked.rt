@@ -342,6 +342,22 @@ impl<M: Machine, T: TableName> Locked<M, T> {
         })
     }
 
+    /// The kept cause, if there is one, which the pass then knows with the whole history.
+    pub fn kept_cause(&mut self, table: &LockTable<M>, pass: &mut Pass<M, T>) -> Option<EndCause>
+        requires { IsNamed table.now.shared.table_id T.table }
+        ensures fits { IfSome result (λ cause. M.fits cause pass.new.history pass.new.made) }
+        ensures learned { Learned M.caller_of M.legal pass.old pass.new }
+        ensures top { pass.new.made ≤ MOST_PASSES }
+        ensures knows { pass.new.ended ≡ result }
+        ensures kept { result ≡ self.old.ended }
+        ensures whole { pass.new.history ≡ self.old.entries }
+        ensures rest { self.new ≡ self.old }
+    {
+        settle_receipt(table, &mut self.book, pass);
+        take_note_of_book(table, &mut self.book, pass);
+        self.cause
+    }
+
     /// Keeps the cause, unless one is kept already, and answers the kept one, which the pass then
     /// knows.
     pub fn end(&mut self, table: &LockTable<M>, pass: &mut Pass<M, T>, cause: EndCause) -> EndCause

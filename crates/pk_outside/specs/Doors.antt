@@ -27,11 +27,12 @@ abbrev pub IsEmptied : Option DoorTold → Type 0
 IsEmptied None = Unit {0}
 IsEmptied (Some door) = door.left ≡ []
 
--- What an answer of `accept` says of the links of the door: the next one, or that none is left. A
--- refused one leaves them.
+-- What an answer of `accept` says of the links of the door: the next one, or that none is left. One
+-- that is refused, and one in whose time no link came, leave them.
 abbrev pub Accepts : {L : Type 0} → (L → Option Origin) → Option DoorTold → Option DoorTold → Accepted L → Type 0
 Accepts origin before after (accepted.Link link) = GivesLink before after (origin link)
 Accepts origin before after accepted.Closed = (after ≡ before) × IsEmptied before
+Accepts origin before after accepted.Idle = after ≡ before
 Accepts origin before after accepted.Failed = after ≡ before
 Accepts origin before after accepted.NoMemory = after ≡ before
 
@@ -39,6 +40,7 @@ Accepts origin before after accepted.NoMemory = after ≡ before
 abbrev pub AcceptCause : {L : Type 0} → ℕ → ℕ → Accepted L → Type 0
 AcceptCause before now (accepted.Link link) = Unit {0}
 AcceptCause before now accepted.Closed = Unit {0}
+AcceptCause before now accepted.Idle = Unit {0}
 AcceptCause before now accepted.Failed = Rose before now
 AcceptCause before now accepted.NoMemory = Unit {0}
 
@@ -46,6 +48,7 @@ AcceptCause before now accepted.NoMemory = Unit {0}
 abbrev pub has_failed : {L : Type 0} → Accepted L → Bool
 has_failed (accepted.Link link) = false
 has_failed accepted.Closed = false
+has_failed accepted.Idle = false
 has_failed accepted.Failed = true
 has_failed accepted.NoMemory = false
 

@@ -12,6 +12,8 @@ pub enum Accepted<L> {
     Link(L),
     /// No link is left.
     Closed,
+    /// No link came for about a second. One may come later.
+    Idle,
     /// The door failed, and counted it.
     Failed,
     /// Memory for the two directions was refused.
@@ -32,7 +34,7 @@ pub trait Door: Drop + Send {
     /// How often the door has failed.
     ghost faults: { Self → ℕ };
 
-    /// Waits for the next link.
+    /// Waits for the next link, for about a second where none comes.
     fn accept(&mut self) -> Accepted<Self::Link>
         ensures links { Accepts Self.Link.origin (told self.old) (told self.new) result }
         ensures owner { owner self.new ≡ owner self.old }

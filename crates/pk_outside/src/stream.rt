@@ -44,6 +44,15 @@ pub trait Source: Drop + Send {
         ensures quiet { OnOk result (faults self.new ≡ faults self.old) }
         ensures fewer { MatchResult result (λ n. budget self.new + n ≤ budget self.old) (λ _. budget self.new ≤ budget self.old) };
 
+    /// Lifts the time limit of a source that has one for the opening of its link: from here on its
+    /// reads wait for as long as it takes. It takes no memory. By default it does nothing.
+    fn lift_time_limit(&mut self)
+        ensures left { left self.new ≡ left self.old }
+        ensures same { origin self.new ≡ origin self.old }
+        ensures count { faults self.new ≡ faults self.old }
+        ensures rest { (budget self.new ≡ budget self.old) × (ended self.new ≡ ended self.old) }
+    {}
+
     /// No source can give more than this.
     ghost budget_bound: { (source : Self) → budget source ≤ 2 ^ 62 };
 
@@ -78,6 +87,15 @@ pub trait Sink: Drop + Send {
         ensures same { path self.new ≡ path self.old }
         ensures cause { HasCause (faults self.old) (faults self.new) result }
         ensures quiet { OnOk result (faults self.new ≡ faults self.old) };
+
+    /// Closes the sink: nothing more will be written. The other side of a link is told, and the
+    /// link's own source meets the end, also in a read that waits. It takes no memory. By default it
+    /// does nothing.
+    fn close(&mut self)
+        ensures held { held self.new ≡ held self.old }
+        ensures same { path self.new ≡ path self.old }
+        ensures count { faults self.new ≡ faults self.old }
+    {}
 }
 
 /// Writes all of the bytes.

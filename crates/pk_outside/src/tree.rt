@@ -91,4 +91,11 @@ pub trait Tree: Drop + Send {
         ensures file { ReadsFile (told self.old) path.now limit result }
         ensures same { told self.new ≡ told self.old }
         ensures cause { TreeCause (faults self.old) (faults self.new) result };
+
+    /// Hands lines about a load of the tree to whoever keeps it: what was skipped, or why the load was
+    /// refused. Nothing comes of it. By default they are dropped.
+    fn tell(&mut self, _lines: &[u8])
+        ensures same { told self.new ≡ told self.old }
+        ensures count { faults self.new ≡ faults self.old }
+    {}
 }

@@ -20,18 +20,16 @@ const EMFILE: i32 = 24;
 /// The error of the system where the system has no descriptor left.
 const ENFILE: i32 = 23;
 
-/// How long a door waits before it tries to accept again, in milliseconds.
+/// How long a door waits where a connection could not be accepted, in milliseconds.
 const PAUSE_MILLISECONDS: u64 = 100;
-
-/// How often a door tries to accept one connection.
-const TRIES: u64 = 1 << 62;
 
 /// A door at a path. The doors of one path share a socket, and the system gives each connection to
 /// one of those that wait.
 ///
 /// The system is not asked who connects: the user of each connection is that of the door. A
-/// connection that left before it was accepted is passed over. Where there is no descriptor for a
-/// connection, the door waits until there is one.
+/// connection that waits is accepted at once, and where none comes for a second the door is idle. It
+/// is idle too where a connection left before it was accepted, and where there is no descriptor for
+/// one, after a pause.
 #[derive(Drop)]
 pub struct SocketDoor<'a, R: time::Clock> {
     pub(crate) rt: &'a R,
@@ -51,27 +49,32 @@ pub(crate) fn is_passing(cause: &io::Error) -> bool {
     }
 }
 
-/// Waits for the next connection.
-fn next_stream<R: time::Clock>(rt: &R, listening: &Listening) -> Result<UnixStream, CallRefused> {
-    for _ in 0..TRIES {
-        match listening.socket.accept() {
-            Ok((stream, _)) => return Ok(stream),
-            Err(cause) if is_passing(&cause) => {
-                thread::sleep(rt, Duration::from_millis(PAUSE_MILLISECONDS));
-            }
-            Err(cause) => return Err(CallRefused::Failed(cause)),
+/// Waits for the next connection. None where none comes for a second, or after a pause.
+fn next_stream<R: time::Clock>(
+    rt: &R,
+    listening: &Listening,
+) -> Result<Option<UnixStream>, CallRefused> {
+    match listening.socket.accept() {
+        Ok((stream, _)) => Ok(Some(stream)),
+        Err(cause) if cause.kind() == ErrorKind::WouldBlock => Ok(None),
+        Err(cause) if is_passing(&cause) => {
+            thread::sleep(rt, Duration::from_millis(PAUSE_MILLISECONDS));
+            Ok(None)
         }
+        Err(cause) => Err(CallRefused::Failed(cause)),
     }
-    Err(CallRefused::Failed(ErrorKind::TimedOut.into()))
 }
 
-/// Waits for the next connection, as a link.
+/// Waits for the next connection, as a link. None where none comes.
 fn next_link<R: time::Clock>(
     rt: &R,
     alloc: Global,
     listening: &Listening,
-) -> Result<SocketLink, CallRefused> {
-    SocketLink::over(alloc, next_stream(rt, listening)?)
+) -> Result<Option<SocketLink>, CallRefused> {
+    match next_stream(rt, listening)? {
+        Some(stream) => Ok(Some(SocketLink::accepted(alloc, stream)?)),
+        None => Ok(None),
+    }
 }
 
 impl<'a, R: time::Clock> SocketDoor<'a, R> {
@@ -96,7 +99,8 @@ impl<'a, R: time::Clock + Sync> Door for SocketDoor<'a, R> {
 
     fn accept(&mut self) -> Accepted<SocketLink> {
         let refused = match next_link(self.rt, self.alloc, &self.listening) {
-            Ok(link) => return Accepted::Link(link),
+            Ok(Some(link)) => return Accepted::Link(link),
+            Ok(None) => return Accepted::Idle,
             Err(refused) => refused,
         };
         let Some(refusal) = refused.of_call(StationCall::Accept, &self.listening.path) else {

@@ -27,7 +27,7 @@ pub use door::SocketDoor;
 pub use refusal::{Refusal, StationCall};
 pub use salt::RandomSalt;
 pub use sights::ProcessSights;
-pub use socket::{SocketLink, SocketSink, SocketSource, WRITE_SECONDS};
+pub use socket::{HANDSHAKE_SECONDS, SocketLink, SocketSink, SocketSource, WRITE_SECONDS};
 pub use station::SocketStation;
 pub use streams::{ReadSource, WriteSink};
 pub use tree::DirTree;

@@ -6,11 +6,16 @@ use crate::refusal::{CallRefused, system_path};
 use pk_types::Text;
 use std::alloc::Global;
 use std::fs::{self, Files};
-use std::io::ErrorKind;
+use std::io::{self, ErrorKind};
 use std::net::Net;
+use std::os::fd::OwnedFd;
 use std::os::unix::fs::FileTypeExt;
-use std::os::unix::net::UnixListener;
+use std::os::unix::net::{UnixListener, UnixStream};
 use std::sync::Arc;
+use std::time::Duration;
+
+/// How long an accept waits for a connection, in seconds.
+const ACCEPT_SECONDS: u64 = 1;
 
 /// A socket that listens, and the path of its file.
 #[derive(Drop)]
@@ -49,13 +54,22 @@ fn is_socket<R: Files>(rt: &R, path: &str) -> bool {
     }
 }
 
+/// A socket that listens at the path, at which an accept waits `ACCEPT_SECONDS` at most. The system
+/// has one time limit for reads and for accepts, which is set here over a second hold of the socket.
+fn limited_listener<R: Net + Files>(rt: &R, path: &str) -> io::Result<UnixListener> {
+    let socket = UnixListener::bind(rt, path)?;
+    let hold = UnixStream::from(OwnedFd::from(socket.try_clone()?));
+    hold.set_read_timeout(Some(Duration::from_secs(ACCEPT_SECONDS)))?;
+    Ok(socket)
+}
+
 /// A socket that listens at the path. The system makes the file before it lets the socket listen.
-/// Where it then refuses that, the file is removed again, and where it refused the path, as one that
-/// stands already, what stands there is left.
+/// Where it then refuses something, the file is removed again, and where it refused the path, as one
+/// that stands already, what stands there is left.
 fn listener<R: Net + Files>(rt: &R, path: &Text) -> Result<UnixListener, CallRefused> {
     let path = system_path(path)?;
     let was_free = is_free(rt, path);
-    match UnixListener::bind(rt, path) {
+    match limited_listener(rt, path) {
         Ok(socket) => Ok(socket),
         Err(cause) => {
             if was_free && cause.kind() != ErrorKind::AddrInUse && is_socket(rt, path) {

@@ -14,6 +14,10 @@ use std::time::Duration;
 /// How long one write waits for a peer that does not read, in seconds. Then it fails.
 pub const WRITE_SECONDS: u64 = 30;
 
+/// How long one read of an accepted connection waits for a peer that says nothing, until its
+/// handshake is over, in seconds. Then it fails.
+pub const HANDSHAKE_SECONDS: u64 = 10;
+
 /// How many bytes a socket can give.
 const BUDGET: usize = 1 << 62;
 
@@ -22,7 +26,8 @@ const TRIES: u64 = 1 << 62;
 
 /// The direction of a connection that is read.
 ///
-/// A peer that is gone is the end, or a fault.
+/// A peer that is gone is the end, or a fault. So is one that says nothing, where there is a time limit
+/// for reads.
 #[derive(Drop)]
 pub struct SocketSource {
     pub(crate) stream: Arc<UnixStream>,
@@ -34,8 +39,9 @@ pub struct SocketSource {
 
 /// The direction of a connection that is written.
 ///
-/// A peer that is gone, or that reads nothing for `WRITE_SECONDS`, is a fault. Behind a fault both
-/// directions of the connection are shut down, so that its source meets the end.
+/// A peer that is gone, or that reads nothing for `WRITE_SECONDS`, is a fault. Behind a fault, and
+/// where the sink is closed, both directions of the connection are shut down, so that its source
+/// meets the end. What was written before the peer can still read.
 #[derive(Drop)]
 pub struct SocketSink {
     pub(crate) stream: Arc<UnixStream>,
@@ -99,6 +105,10 @@ impl Source for SocketSource {
         self.faults = self.faults.saturating_add(1);
         Err(Failed)
     }
+
+    fn lift_time_limit(&mut self) {
+        let _ = self.stream.set_read_timeout(None);
+    }
 }
 
 impl Sink for SocketSink {
@@ -118,6 +128,10 @@ impl Sink for SocketSink {
             }
         }
     }
+
+    fn close(&mut self) {
+        let _ = self.stream.shutdown(Shutdown::Both);
+    }
 }
 
 /// A connection that was accepted or dialled. It is closed when its two directions are dropped.
@@ -130,6 +144,15 @@ pub struct SocketLink {
 }
 
 impl SocketLink {
+    /// The connection over a socket that was accepted: until its handshake is over a read waits at
+    /// most `HANDSHAKE_SECONDS`.
+    pub(crate) fn accepted(alloc: Global, stream: UnixStream) -> Result<SocketLink, CallRefused> {
+        stream
+            .set_read_timeout(Some(Duration::from_secs(HANDSHAKE_SECONDS)))
+            .map_err(CallRefused::Failed)?;
+        SocketLink::over(alloc, stream)
+    }
+
     /// The connection over a socket, whose writes wait at most `WRITE_SECONDS`.
     pub(crate) fn over(alloc: Global, stream: UnixStream) -> Result<SocketLink, CallRefused> {
         stream

@@ -2,7 +2,7 @@
 ghost use Rattle.pk_outside.specs.Allowing.{IsFree};
 
 use crate::door::is_passing;
-use crate::socket::WRITE_SECONDS;
+use crate::socket::{HANDSHAKE_SECONDS, WRITE_SECONDS};
 use crate::{ReadSource, SocketStation, StationCall, SystemClock, WriteSink};
 use pk_outside::{
     Accepted, Clock, Door, Ends, Failed, Link, Salt, Sighted, Sights, Sink, Source, Station,
@@ -33,7 +33,7 @@ fn station<R: Net + Files<File = File> + time::Clock + RandomSource + AllocGloba
 fn accepted<D: Door>(door: &mut D) -> Option<Ends<D::Link>> {
     match door.accept() {
         Accepted::Link(link) => Some(link.split()),
-        Accepted::Closed | Accepted::Failed | Accepted::NoMemory => None,
+        Accepted::Closed | Accepted::Idle | Accepted::Failed | Accepted::NoMemory => None,
     }
 }
 
@@ -159,6 +159,51 @@ fn gone_peer_is_a_fault_and_no_signal(rt: HostRuntime) -> Result<(), Fail> {
     let (clock, salt) = (station.clock(), station.salt());
     station.shut(door, clock, salt);
     assert_eq!(rt; station.faults(), 1);
+    Ok(())
+}
+
+#[test]
+fn door_is_idle_where_nobody_comes(rt: HostRuntime) -> Result<(), Fail> {
+    let _ = fs::remove_file(&rt, "idle.socket");
+    let path = text(rt.alloc(), "idle.socket")?;
+    let mut station = station(&rt)?;
+    let mut door = station.door(0, &path, 0).expect(&rt, "a door");
+    assert!(rt; matches!(door.accept(), Accepted::Idle));
+    let ours = station.dial(&path).expect(&rt, "a dialled link").split();
+    let theirs = accepted(&mut door).expect(&rt, "an accepted link");
+    let wait = theirs.input.stream.read_timeout()?;
+    assert_eq!(rt; wait, Some(Duration::from_secs(HANDSHAKE_SECONDS)));
+    assert_eq!(rt; ours.input.stream.read_timeout()?, None);
+    door.back(theirs);
+    station.hang(ours);
+    let (clock, salt) = (station.clock(), station.salt());
+    station.shut(door, clock, salt);
+    assert_eq!(rt; station.faults(), 0);
+    Ok(())
+}
+
+#[test]
+fn closed_sink_ends_its_source_and_leaves_what_was_written(rt: HostRuntime) -> Result<(), Fail> {
+    let _ = fs::remove_file(&rt, "closed.socket");
+    let path = text(rt.alloc(), "closed.socket")?;
+    let mut station = station(&rt)?;
+    let mut door = station.door(0, &path, 0).expect(&rt, "a door");
+    let mut ours = station.dial(&path).expect(&rt, "a dialled link").split();
+    let mut theirs = accepted(&mut door).expect(&rt, "an accepted link");
+    theirs.input.lift_time_limit();
+    assert_eq!(rt; theirs.input.stream.read_timeout()?, None);
+    assert_eq!(rt; theirs.output.write(b"answer"), Ok(6));
+    theirs.output.close();
+    assert!(rt; is_at_end(&mut theirs.input));
+    let mut buffer = [0u8; 16];
+    assert_eq!(rt; ours.input.read(&mut buffer), Ok(6));
+    assert!(rt; &buffer[..6] == b"answer".as_slice());
+    assert!(rt; is_at_end(&mut ours.input));
+    door.back(theirs);
+    station.hang(ours);
+    let (clock, salt) = (station.clock(), station.salt());
+    station.shut(door, clock, salt);
+    assert_eq!(rt; station.faults(), 0);
     Ok(())
 }
 

@@ -108,7 +108,7 @@ fn bytes_at<R: Files + AllocGlobal>(
     }
 }
 
-impl<'a, R: Files + AllocGlobal + Clone + Drop + Sync> DirTree<'a, R> {
+impl<'a, R: Files + AllocGlobal + Clone + Drop + Sync + Eprint> DirTree<'a, R> {
     ghost use Rattle.std.specs.Prelude.{◌≡◌};
 
     /// The files of this system. It takes no memory.
@@ -119,7 +119,7 @@ impl<'a, R: Files + AllocGlobal + Clone + Drop + Sync> DirTree<'a, R> {
     }
 }
 
-impl<'a, R: Files + AllocGlobal + Clone + Drop + Sync> Tree for DirTree<'a, R> {
+impl<'a, R: Files + AllocGlobal + Clone + Drop + Sync + Eprint> Tree for DirTree<'a, R> {
     ghost use Rattle.std.specs.Prelude.{None};
 
     ghost told = { λ _. None };
@@ -144,5 +144,12 @@ impl<'a, R: Files + AllocGlobal + Clone + Drop + Sync> Tree for DirTree<'a, R> {
             self.faults = self.faults.saturating_add(1);
         }
         bytes
+    }
+
+    /// Writes the lines to standard error.
+    fn tell(&mut self, lines: &[u8]) {
+        if let Ok(lines) = str::from_utf8(lines) {
+            let _ = eprint!(self.rt; "{lines}");
+        }
     }
 }

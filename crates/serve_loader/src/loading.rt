@@ -11,8 +11,9 @@ ghost use Rattle.serve_loader.specs.Turns.{loading_given};
 use authority_model::{Event, Loaded};
 use history_lock::{EndCause, Pass, TableName};
 use pk_outside::Tree;
-use pk_types::Text;
+use pk_types::{ByteList, List, NoMemory, Text};
 use policy_load::{LoadRefused, load_beside};
+use scenario_text::skipped_text;
 use shared_authority::{Kept, LimitsName, Shared};
 use std::alloc::Global;
 use std::sync::Wait;
@@ -79,7 +80,30 @@ fn submit_loading<L: LimitsName, T: TableName, R: Wait>(
     }
 }
 
-/// Loads the tree once and hands in what that gave.
+/// The lines that tell what a load skipped, or why it was refused.
+fn told_of(alloc: Global, gave: &Result<Loaded, LoadRefused>) -> Result<ByteList, NoMemory> {
+    match gave {
+        Ok(loaded) => skipped_text(alloc, loaded.faults.as_slice()),
+        Err(refused) => {
+            let mut line = String::new(alloc);
+            write!(&mut line, "load refused: {refused}\n")?;
+            Ok(List::from_vec(line.into_bytes()))
+        }
+    }
+}
+
+/// Tells whoever keeps the tree what a load skipped, or why it was refused. Where memory for that is
+/// refused nothing is told.
+fn tell_tree<F: Tree>(alloc: Global, tree: &mut F, gave: &Result<Loaded, LoadRefused>)
+    ensures same { F.told tree.new ≡ F.told tree.old }
+    ensures count { F.faults tree.new ≡ F.faults tree.old }
+{
+    if let Ok(lines) = told_of(alloc, gave) {
+        tree.tell(lines.as_slice());
+    }
+}
+
+/// Loads the tree once, tells of it, and hands in what it gave.
 fn load_again<L: LimitsName, T: TableName, F: Tree, R: Threads + Wait + Sync>(
     rt: &R,
     alloc: Global,
@@ -97,6 +121,7 @@ fn load_again<L: LimitsName, T: TableName, F: Tree, R: Threads + Wait + Sync>(
     ensures number { pass.new.number ≡ pass.old.number }
 {
     let gave = load_beside(rt, alloc, tree, root);
+    tell_tree(alloc, tree, &gave);
     submit_loading(rt, shared, pass, gave)
 }
 

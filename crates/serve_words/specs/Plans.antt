@@ -4,6 +4,7 @@ use Rattle.std.specs.List.{ends_with}
 use Rattle.std.specs.Str.{bytes_eq}
 use Rattle.pk_types.specs.Decimals.{decimal_up_to}
 use Rattle.authority_model.specs.declared.journal.TheConstants.{MAX_BYTES, MAX_ENTRIES}
+use Rattle.authority_model.specs.Entering.{AreAllowed}
 use Rattle.command_line.specs.declared.door.DoorPath.{DoorPath}
 use Rattle.command_line.specs.Doors.{door_of}
 use Rattle.serve_words.specs.declared.plan.ServePlan.{ServePlan}
@@ -80,11 +81,10 @@ plan_in words = option_and_then (λ (root, rest). if is_root root then plan_from
 abbrev pub IsInRange : Amounts → Type 0
 IsInRange a = (1 ≤ a.slots) × (a.slots ≤ MAX_SLOTS) × IfSome a.stop_after (λ k. (1 ≤ k) × (k ≤ MAX_CONNECTIONS)) × (1 ≤ a.entries) × (a.entries ≤ MAX_ENTRIES)
 
--- a plan is one that a service takes: it has a door, at most 64 slots over all doors, and limits in their ranges
+-- a plan is one that a service takes: it has a door, at most 64 slots over all doors, and limits that a journal may have
 pub record IsAllowed (plan : ServePlan) : Type 0 where
   pub door : 1 ≤ length plan.doors
   pub slot : 1 ≤ plan.slots
   pub slots : plan.slots * length plan.doors ≤ MAX_SLOTS
   pub stop : IfSome plan.stop_after (λ k. (1 ≤ k) × (k ≤ MAX_CONNECTIONS))
-  pub entries : (1 ≤ plan.limits.entries) × (plan.limits.entries ≤ MAX_ENTRIES)
-  pub bytes : plan.limits.bytes ≡ MAX_BYTES
+  pub limits : AreAllowed plan.limits

@@ -81,7 +81,7 @@ pub shut_door : (before after : Option StationTold) (door : Option DoorTold) (re
 shut_door before after door readings words shuts = record {
   where_told = (λ now e.
       let (old, b, back, d, r, w, is) = shuts_from before after door readings words now shuts e in
-      (old, b, back, ap (λ (t : StationTold). t.shut) is, d, ap (λ (t : StationTold). t.doors) is));
+      (old, b, back, d, is));
 }
 
 -- what a station was before it made a door
@@ -119,7 +119,6 @@ opens_door uid path slot t0 t1 t2 t3 door clock_left clock_gave salt_left salt_g
         s0,
         is0,
         ap made_of door_is,
-        ap (λ (t : StationTold). t.doors) now_is ∙ (ap (λ (t : StationTold). t.doors) s2_is ∙ ap (λ (t : StationTold). t.doors) s1_is),
-        ap (λ (t : StationTold). t.shut) now_is ∙ (ap (λ (t : StationTold). t.shut) s2_is ∙ ap (λ (t : StationTold). t.shut) s1_is),
+        now_is ∙ (ap (λ (t : StationTold). record t { salts = other_lists t.salts }) s2_is ∙ ap (λ (t : StationTold). record t { clocks = other_lists t.clocks; salts = other_lists t.salts }) s1_is),
       ));
 }

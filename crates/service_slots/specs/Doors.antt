@@ -18,18 +18,18 @@ door_made door = record { uid = door.uid; path = door.path; slot = door.slot; li
 abbrev pub made_of : Option DoorTold → Option DoorMade
 made_of told = option_map door_made told
 
--- A door was opened at a station: it has these arguments and the next of the links, and nothing came back to the station.
+-- A door was opened at a station, with a clock and a salt: it has these arguments and the next of the links. The station gave nothing else, and nothing came back to it.
 pub record OpensDoor (uid : ℕ) (path : List ℕ) (slot : ℕ) (before after : Option StationTold) (made : Option DoorMade) : Type 0 where
   pub where_told : (now : StationTold) → after ≡ Some now
       → (old : StationTold) × (before ≡ Some old)
       × (made ≡ Some (record { uid = uid; path = path; slot = slot; links = first_list old.doors }))
-      × (now.doors ≡ other_lists old.doors) × (now.shut ≡ old.shut)
+      × (now ≡ record old { doors = other_lists old.doors; clocks = other_lists old.clocks; salts = other_lists old.salts })
 
--- A door came back to a station, behind those before: it is the one that this tells.
+-- A door came back to a station, behind those before, and nothing else did: it is the one that this tells.
 pub record ShutsDoor (before after : Option StationTold) (door : Option DoorTold) : Type 0 where
   pub where_told : (now : StationTold) → after ≡ Some now
       → (old : StationTold) × (before ≡ Some old) × (back : DoorBack)
-      × (now.shut ≡ old.shut ++ back ∷ []) × (door ≡ Some back.door) × (now.doors ≡ old.doors)
+      × (door ≡ Some back.door) × (now ≡ record old { shut = old.shut ++ back ∷ [] })
 
 -- The door has no link left, or it took back as many as its slot was to serve.
 abbrev pub IsDone : Option ℕ → DoorTold → Type 0

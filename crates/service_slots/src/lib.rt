@@ -6,6 +6,7 @@
 //! (`specs/Served.antt`), so that at the end it holds of the one journal.
 #![tactic(auto)]
 
+mod accepting;
 mod admitting;
 mod beside;
 mod line;

@@ -7,11 +7,12 @@ ghost use Rattle.service_slots.specs.Doors.{made_of};
 ghost use Rattle.service_slots.specs.Served.{SlotOf};
 ghost use Rattle.service_slots.specs.Stops.{NoneEnded, StopsAs};
 
+use crate::accepting::next_link;
 use crate::line::Line;
 use crate::stop::SlotStop;
 use connection_serve::serve_connection;
 use history_lock::{Pass, TableName};
-use pk_outside::{Accepted, Clock, Door, Link, Salt};
+use pk_outside::{Clock, Door, Link, Salt};
 use shared_authority::{Kept, LimitsName, Shared};
 use std::alloc::Global;
 use std::sync::Wait;
@@ -92,11 +93,9 @@ pub(crate) fn serve_next<
     ensures goes_on { IfNone result (NoneEnded slot.new.lines.items) }
     ensures stops { IfSome result (λ stop. (most : Option ℕ) → StopsAs L.limits most slot.new.pass (D.told slot.new.door) (D.faults slot.new.door) slot.new.lines.items stop) }
 {
-    let link = match slot.door.accept() {
-        Accepted::Link(link) => link,
-        Accepted::Closed => return Some(SlotStop::Closed),
-        Accepted::Failed => return Some(SlotStop::DoorFailed),
-        Accepted::NoMemory => return Some(SlotStop::NoMemory),
+    let link = match next_link(rt, shared, &mut slot.door, &mut slot.pass) {
+        Ok(link) => link,
+        Err(stop) => return Some(stop),
     };
     let mut ends = link.split();
     let uid = slot.door.uid();

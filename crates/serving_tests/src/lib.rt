@@ -6,6 +6,8 @@ mod closed_doors;
 #[cfg(test)]
 mod connections;
 #[cfg(test)]
+mod idle_doors;
+#[cfg(test)]
 mod loaders;
 #[cfg(test)]
 mod passes;

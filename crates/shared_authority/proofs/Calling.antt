@@ -12,17 +12,17 @@ use Rattle.shared_authority.specs.declared.operation.Op.{Op}
 use Rattle.shared_authority.specs.declared.operation.Refusal.{Refusal}
 use Rattle.shared_authority.specs.declared.operation.Reply.{Reply}
 use Rattle.shared_authority.specs.Journals.{IsJournal, Fits, caller_of}
-use Rattle.shared_authority.specs.Machines.{IsReady, Gives, Refuses}
+use Rattle.shared_authority.specs.Machines.{IsReady, GivesWithin, Refuses}
 use Rattle.shared_authority.specs.Passes.{CalledNow, Collects, CollectIsRefused, CollectsNow}
 
 -- a call that was made
-pub called : (limits : Limits) (v w : Known Item) (op : Op) (answer : Result Reply (CallRefused Op Refusal)) → IfOk answer (λ reply. Answered caller_of IsJournal IsReady Gives v op reply w)
+pub called : (limits : Limits) (v w : Known Item) (op : Op) (answer : Result Reply (CallRefused Op Refusal)) → IfOk answer (λ reply. Answered caller_of IsJournal IsReady (GivesWithin limits) v op reply w)
     → IfErr answer (λ refused. Refused caller_of IsJournal (λ n given list refusal. Refuses limits list refusal) (Fits limits) v op refused w) → CalledNow limits v op (Some answer) w
 called limits v w op (Ok reply) ok err = ok
 called limits v w op (Err refused) ok err = err
 
 -- a call that was made only if it need not wait
-pub called_now : (limits : Limits) (v w : Known Item) (op : Op) (answer : Option (Result Reply (CallRefused Op Refusal))) → (answer ≡ None → w ≡ v) → IfSome answer (λ a. IfOk a (λ reply. Answered caller_of IsJournal IsReady Gives v op reply w))
+pub called_now : (limits : Limits) (v w : Known Item) (op : Op) (answer : Option (Result Reply (CallRefused Op Refusal))) → (answer ≡ None → w ≡ v) → IfSome answer (λ a. IfOk a (λ reply. Answered caller_of IsJournal IsReady (GivesWithin limits) v op reply w))
     → IfSome answer (λ a. IfErr a (λ refused. Refused caller_of IsJournal (λ n given list refusal. Refuses limits list refusal) (Fits limits) v op refused w)) → CalledNow limits v op answer w
 called_now limits v w op None none ok err = none refl
 called_now limits v w op (Some answer) none ok err = called limits v w op answer ok err

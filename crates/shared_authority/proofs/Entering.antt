@@ -15,14 +15,16 @@ use Rattle.history_lock.specs.Known.{Known}
 use Rattle.history_lock.specs.Calls.{Answered}
 use Rattle.authority_model.specs.declared.event.Event.{Event}
 use Rattle.authority_model.specs.declared.journal.Item.{Item}
+use Rattle.authority_model.specs.declared.journal.Limits.{Limits}
 use Rattle.authority_model.specs.declared.load.Loaded.{Loaded}
 use Rattle.authority_model.specs.Given.{event_given, load_given}
+use Rattle.shared_authority.specs.declared.operation.Op.{Op}
 use Rattle.shared_authority.specs.declared.operation.Op.TheVariants.{Step, Load, Collect}
 use Rattle.shared_authority.specs.declared.operation.Reply.{Reply}
 use Rattle.shared_authority.specs.declared.operation.Reply.TheVariants.{At, Batch as Batched}
 use Rattle.shared_authority.specs.Journals.{IsJournal, caller_of, past_of}
-use Rattle.shared_authority.specs.Machines.{IsReady, Gives, batch_in, place_in}
-use Rattle.shared_authority.specs.Passes.{Collects, Submitted, Tells, TookBatch, TookNothing}
+use Rattle.shared_authority.specs.Machines.{IsReady, Gives, GivesWithin, batch_in, place_in}
+use Rattle.shared_authority.specs.Passes.{Collects, HadRoom, Submitted, Tells, TookBatch, TookNothing}
 
 -- the reply to an event has a place
 pub step_placed : (n moment salt : ℕ) (event : Event) (list : List Item) (i : Item) (reply : Reply) → Gives n (Step moment salt event) list i reply → IsSome (place_in reply)
@@ -35,14 +37,14 @@ load_placed n moment loaded list i (At place) given = refl
 load_placed n moment loaded list i (Batched b) given = absurd given
 
 -- an event was entered
-pub submitted : (v w : Known Item) (moment salt place : ℕ) (event : Event) (reply : Reply) → place_in reply ≡ Some place → Answered caller_of IsJournal IsReady Gives v (Step moment salt event) reply w → Submitted v (event_given v.number moment salt event) place w
-submitted v w moment salt place event (At at) is answered = record { entered = record { item = answered.entry; learned = answered.learned; is_next = answered.given.0 }; place_is = (let same : at ≡ place = cc in sym same) ∙ answered.given.1 }
-submitted v w moment salt place event (Batched b) is answered = absurd answered.given
+pub submitted : (limits : Limits) (v w : Known Item) (moment salt place : ℕ) (event : Event) (reply : Reply) → place_in reply ≡ Some place → Answered caller_of IsJournal IsReady (GivesWithin limits) v (Step moment salt event) reply w → Submitted v (event_given v.number moment salt event) place w
+submitted limits v w moment salt place event (At at) is answered = record { entered = record { item = answered.entry; learned = answered.learned; is_next = answered.given.gives.0 }; place_is = (let same : at ≡ place = cc in sym same) ∙ answered.given.gives.1 }
+submitted limits v w moment salt place event (Batched b) is answered = absurd answered.given.gives
 
 -- a load was entered
-pub submitted_load : (v w : Known Item) (moment place : ℕ) (loaded : Loaded) (reply : Reply) → place_in reply ≡ Some place → Answered caller_of IsJournal IsReady Gives v (Load moment loaded) reply w → Submitted v (load_given v.number moment loaded) place w
-submitted_load v w moment place loaded (At at) is answered = record { entered = record { item = answered.entry; learned = answered.learned; is_next = answered.given.0 }; place_is = (let same : at ≡ place = cc in sym same) ∙ answered.given.1 }
-submitted_load v w moment place loaded (Batched b) is answered = absurd answered.given
+pub submitted_load : (limits : Limits) (v w : Known Item) (moment place : ℕ) (loaded : Loaded) (reply : Reply) → place_in reply ≡ Some place → Answered caller_of IsJournal IsReady (GivesWithin limits) v (Load moment loaded) reply w → Submitted v (load_given v.number moment loaded) place w
+submitted_load limits v w moment place loaded (At at) is answered = record { entered = record { item = answered.entry; learned = answered.learned; is_next = answered.given.gives.0 }; place_is = (let same : at ≡ place = cc in sym same) ∙ answered.given.gives.1 }
+submitted_load limits v w moment place loaded (Batched b) is answered = absurd answered.given.gives
 
 -- the reply to a Collect has a batch
 pub collect_batched : (n of : ℕ) (list : List Item) (i : Item) (reply : Reply) → Gives n (Collect of) list i reply → IsSome (batch_in reply)
@@ -70,27 +72,31 @@ still_departed : (past : List Item) (i : Item) (c : ℕ) → departed past c ≡
 still_departed past i c gone = stays_departed (i ∷ []) past c gone
 
 -- some outputs were collected
-pub took_batch : (v w : Known Item) (of : ℕ) (b : Batch) → Answered caller_of IsJournal IsReady Gives v (Collect of) (Batched b) w → b.outputs ≢ [] → TookBatch v of b w
-took_batch v w of b answered some = record { entered = record { item = answered.entry; learned = answered.learned; is_next = answered.given.0 }; batch = answered.given.1; some = some }
+pub took_batch : (limits : Limits) (v w : Known Item) (of : ℕ) (b : Batch) → Answered caller_of IsJournal IsReady (GivesWithin limits) v (Collect of) (Batched b) w → b.outputs ≢ [] → TookBatch v of b w
+took_batch limits v w of b answered some = record { entered = record { item = answered.entry; learned = answered.learned; is_next = answered.given.gives.0 }; batch = answered.given.gives.1; some = some }
 
 -- nothing is left
-pub took_nothing : (v w : Known Item) (of : ℕ) (b : Batch) → Answered caller_of IsJournal IsReady Gives v (Collect of) (Batched b) w → b.outputs ≡ [] → TookNothing v of w
-took_nothing v w of b answered none =
+pub took_nothing : (limits : Limits) (v w : Known Item) (of : ℕ) (b : Batch) → Answered caller_of IsJournal IsReady (GivesWithin limits) v (Collect of) (Batched b) w → b.outputs ≡ [] → TookNothing v of w
+took_nothing limits v w of b answered none =
     let past = past_of answered.learned.grown.before in
-    let nothing : batch past v.number of ≡ [] = sym answered.given.1.outputs ∙ none in
+    let nothing : batch past v.number of ≡ [] = sym answered.given.gives.1.outputs ∙ none in
     let gone : departed past of ≡ true = departs (collected past v.number of) (sent past of) (departed past of) (all_collected past v.number of nothing) answered.ready in
     record {
-      entered = record { item = answered.entry; learned = answered.learned; is_next = answered.given.0 };
+      entered = record { item = answered.entry; learned = answered.learned; is_next = answered.given.gives.0 };
       none = nothing;
-      named = answered.given.1.named;
+      named = answered.given.gives.1.named;
       departed = subst (λ (l : List Item). departed l of ≡ true) (sym (ap past_of answered.learned.grown.grown ∙ reverse-append answered.learned.grown.before (answered.entry ∷ []))) (still_departed past answered.entry of gone);
     }
 
 -- what was collected is told
-pub collects : (v w : Known Item) (of : ℕ) (reply : Reply) (b : Batch) (told : Collected) → batch_in reply ≡ Some b → Answered caller_of IsJournal IsReady Gives v (Collect of) reply w → Tells b told → Collects v of told w
-collects v w of (Batched b') b told is answered tells = go told (subst (λ (x : Batch). Tells x told) (let same : b ≡ b' = cc in same) tells)
+pub collects : (limits : Limits) (v w : Known Item) (of : ℕ) (reply : Reply) (b : Batch) (told : Collected) → batch_in reply ≡ Some b → Answered caller_of IsJournal IsReady (GivesWithin limits) v (Collect of) reply w → Tells b told → Collects v of told w
+collects limits v w of (Batched b') b told is answered tells = go told (subst (λ (x : Batch). Tells x told) (let same : b ≡ b' = cc in same) tells)
   where
     go : (told : Collected) → Tells b' told → Collects v of told w
-    go (collected_as.Batch c) t = subst (λ (x : Batch). TookBatch v of x w) (sym t.0) (took_batch v w of b' answered t.1)
-    go collected_as.Gone t = took_nothing v w of b' answered t
-collects v w of (At place) b told is answered tells = absurd answered.given
+    go (collected_as.Batch c) t = subst (λ (x : Batch). TookBatch v of x w) (sym t.0) (took_batch limits v w of b' answered t.1)
+    go collected_as.Gone t = took_nothing limits v w of b' answered t
+collects limits v w of (At place) b told is answered tells = absurd answered.given.gives
+
+-- what a call entered came where the journal had room
+pub had_room : (limits : Limits) (v w : Known Item) (op : Op) (reply : Reply) → Answered caller_of IsJournal IsReady (GivesWithin limits) v op reply w → HadRoom limits w.history
+had_room limits v w op reply answered = record { before = answered.learned.grown.before; item = answered.entry; last = answered.learned.grown.grown; room = answered.given.room }

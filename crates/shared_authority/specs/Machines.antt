@@ -1,11 +1,12 @@
 -- The authority as the machine under the lock: which operation is ready, which item and reply it gives, and when it is refused.
-use Rattle.std.specs.Prelude.{◌≡◌, ℕ, ◌^◌, ◌≤◌, ⊤, true, List, Option, Some, None, length}
+use Rattle.std.specs.Prelude.{◌≡◌, ℕ, ◌^◌, ◌≤◌, ⊤, true, false, List, Option, Some, None, length}
 use Rattle.authority_model.specs.declared.event.Event.{Event}
 use Rattle.authority_model.specs.declared.journal.Item.{Item}
 use Rattle.authority_model.specs.declared.journal.Limits.{Limits}
 use Rattle.authority_model.specs.declared.load.Loaded.{Loaded}
 use Rattle.authority_core.specs.declared.collecting.Batch.{Batch}
 use Rattle.authority_laws.specs.Batches.{IsBatch, collect_given}
+use Rattle.authority_model.specs.Entering.{is_full}
 use Rattle.authority_model.specs.Sent.{is_ready}
 use Rattle.authority_model.specs.Given.{IsStepped, event_given, load_given, next}
 use Rattle.shared_authority.specs.declared.operation.Op.{Op}
@@ -62,6 +63,11 @@ Gives n (Collect of) list i (Batched b) = (i ≡ next (past_of list) (collect_gi
 Gives n (Step moment salt event) list i (Batched b) = ⊥
 Gives n (Load moment loaded) list i (Batched b) = ⊥
 Gives n (Collect of) list i (At place) = ⊥
+
+-- The same where the journal of the items before it was not full.
+pub record GivesWithin (limits : Limits) (n : ℕ) (op : Op) (list : List Item) (i : Item) (reply : Reply) : Type 0 where
+  pub gives : Gives n op list i reply
+  pub room : is_full limits (past_of list) ≡ false
 
 -- An operation is refused: the journal is full, or memory was refused.
 abbrev pub Refuses : Limits → List Item → Refusal → Type 0

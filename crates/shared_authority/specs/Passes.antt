@@ -1,5 +1,5 @@
 -- What a call says of its pass, which stands for v before the call and for w after it.
-use Rattle.std.specs.Prelude.{◌≢◌, ◌≤◌, true, [], ◌≡◌, ℕ, Option, Some, None, Result, Ok, Err, length}
+use Rattle.std.specs.Prelude.{◌≢◌, ◌≤◌, true, false, [], ◌∷◌, ◌++◌, ◌≡◌, ℕ, List, Option, Some, None, Result, Ok, Err, length}
 use Rattle.history_lock.specs.Known.{Known}
 use Rattle.history_lock.specs.Calls.{Answered, Learned, LearnedOwn, Refused}
 use Rattle.history_lock.specs.declared.refused.CallRefused.{CallRefused}
@@ -10,6 +10,7 @@ use Rattle.authority_model.specs.declared.journal.Limits.{Limits}
 use Rattle.authority_model.specs.declared.load.Loaded.{Loaded}
 use Rattle.authority_core.specs.declared.collecting.Batch.{Batch}
 use Rattle.authority_laws.specs.Batches.{IsBatch, collect_given, greatest_load, loads_in}
+use Rattle.authority_model.specs.Entering.{is_full}
 use Rattle.authority_model.specs.Peers.{departed}
 use Rattle.authority_model.specs.Sent.{batch, sent_to}
 use Rattle.authority_model.specs.Given.{Given, next}
@@ -18,7 +19,7 @@ use Rattle.shared_authority.specs.declared.collecting.Collected.TheVariants as c
 use Rattle.shared_authority.specs.declared.collecting.CollectRefused.{CollectRefused}
 use Rattle.shared_authority.specs.declared.collecting.CollectRefused.TheVariants as collect
 use Rattle.shared_authority.specs.Journals.{IsJournal, Fits, IsFullWith, caller_of, past_of}
-use Rattle.shared_authority.specs.Machines.{IsReady, Gives, Refuses}
+use Rattle.shared_authority.specs.Machines.{IsReady, GivesWithin, Refuses}
 use Rattle.shared_authority.specs.declared.operation.Op.{Op}
 use Rattle.shared_authority.specs.declared.operation.Reply.{Reply}
 use Rattle.shared_authority.specs.declared.operation.Refusal.{Refusal}
@@ -40,6 +41,13 @@ pub record Entered (v : Known Item) (g : Given) (w : Known Item) : Type 0 where
 pub record Submitted (v : Known Item) (g : Given) (place : ℕ) (w : Known Item) : Type 0 where
   pub entered : Entered v g w
   pub place_is : place ≡ length entered.learned.grown.before
+
+-- The last of some items came when the journal of those before it was not full.
+pub record HadRoom (limits : Limits) (list : List Item) : Type 0 where
+  pub before : List Item
+  pub item : Item
+  pub last : list ≡ before ++ item ∷ []
+  pub room : is_full limits (past_of before) ≡ false
 
 -- Nothing was entered, since the lock has ended. The pass knows the kept cause then.
 pub record IsEnded (limits : Limits) (v : Known Item) (cause : EndCause) (w : Known Item) : Type 0 where
@@ -108,5 +116,5 @@ CollectsNow limits v of (Some (Err refused)) w = CollectIsRefused limits v refus
 -- What the lock answers to a call that does not wait.
 abbrev pub CalledNow : Limits → Known Item → Op → Option (Result Reply (CallRefused Op Refusal)) → Known Item → Type 0
 CalledNow limits v op None w = w ≡ v
-CalledNow limits v op (Some (Ok reply)) w = Answered caller_of IsJournal IsReady Gives v op reply w
+CalledNow limits v op (Some (Ok reply)) w = Answered caller_of IsJournal IsReady (GivesWithin limits) v op reply w
 CalledNow limits v op (Some (Err refused)) w = Refused caller_of IsJournal (λ n given list refusal. Refuses limits list refusal) (Fits limits) v op refused w

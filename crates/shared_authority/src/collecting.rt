@@ -1,11 +1,11 @@
 // What is collected, and why nothing was.
-ghost use Rattle.std.specs.Prelude.{ℕ, Some, IfOk, IfSome, IsSome};
+ghost use Rattle.std.specs.Prelude.{ℕ, Some, IfOk, IfSome, IsSome, OnOk};
 ghost use Rattle.history_lock.specs.Known.{Known};
 ghost use Rattle.authority_model.specs.declared.journal.Item.{Item};
 ghost use Rattle.authority_model.specs.declared.journal.Limits.{Limits};
 ghost use Rattle.shared_authority.specs.Journals.{Fits};
 ghost use Rattle.shared_authority.specs.Machines.{batch_in};
-ghost use Rattle.shared_authority.specs.Passes.{CalledNow, CollectIsRefused, CollectsNow, Tells};
+ghost use Rattle.shared_authority.specs.Passes.{CalledNow, CollectIsRefused, CollectsNow, HadRoom, Tells};
 
 use crate::operation::{Op, Refusal, Reply};
 use authority_core::Batch;
@@ -68,9 +68,12 @@ pub(crate) fn collected_or_refused(
     answer: Result<Reply, CallRefused<Op, Refusal>>,
 ) -> Result<Collected, CollectRefused>
     requires { IfOk answer (λ reply. IsSome (batch_in reply)) }
-    ensures { (limits : Limits) (v w : Known Item) (of : ℕ)
+    ensures collects { (limits : Limits) (v w : Known Item) (of : ℕ)
         → CalledNow limits v (Op.Collect of) (Some answer) w
         → CollectsNow limits v of (Some result) w }
+    ensures room { (limits : Limits) (v w : Known Item) (of : ℕ)
+        → CalledNow limits v (Op.Collect of) (Some answer) w
+        → OnOk result (HadRoom limits w.history) }
 {
     match answer {
         Ok(reply) => Ok(Collected::of_batch(reply.into_batch())),

@@ -54,7 +54,8 @@ impl<L: LimitsName> Kept<L> {
 
     /// The authority.
     pub(crate) fn into_authority(self) -> Authority
-        ensures { result ≡ self.authority }
+        ensures same { result ≡ self.authority }
+        ensures within { length result.history.entries ≤ L.limits.entries }
     {
         let Kept { authority, of: _ } = self;
         authority
@@ -64,7 +65,7 @@ impl<L: LimitsName> Kept<L> {
 impl<L: LimitsName> Machine for Kept<L> {
     ghost use Rattle.authority_laws.specs.Batches.{in_order};
     ghost use Rattle.shared_authority.specs.Journals.{IsJournal, Fits, caller_of};
-    ghost use Rattle.shared_authority.specs.Machines.{IsReady, Gives, Refuses, awaited};
+    ghost use Rattle.shared_authority.specs.Machines.{IsReady, GivesWithin, Refuses, awaited};
     ghost use Rattle.shared_authority.specs.Lasting.{empty_journal, journals_short, fits_lasts};
 
     type Op = Op;
@@ -83,7 +84,7 @@ impl<L: LimitsName> Machine for Kept<L> {
 
     ghost is_ready = { IsReady };
 
-    ghost gives = { Gives };
+    ghost gives = { GivesWithin L.limits };
 
     ghost refuses = { λ n op list refusal. Refuses L.limits list refusal };
 

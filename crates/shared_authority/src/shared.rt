@@ -1,5 +1,5 @@
 // The authority under the lock.
-ghost use Rattle.std.specs.Prelude.{max, ◌≡◌, ◌≤◌, ◌^◌, [], None, Some, IfOk, IfErr, IfSome};
+ghost use Rattle.std.specs.Prelude.{max, ◌≡◌, ◌≤◌, ◌^◌, [], None, Some, IfOk, IfErr, IfSome, OnOk, length};
 ghost use mathlib.Core.List.{IsPrefix};
 ghost use Rattle.history_lock.specs.declared.machine.EndCause.{EndCause};
 ghost use Rattle.history_lock.specs.Calls.{Learned, Admitted, NoneAdmitted};
@@ -9,7 +9,7 @@ ghost use Rattle.authority_model.specs.Entering.{AreAllowed};
 ghost use Rattle.authority_model.specs.Given.{IsStepped, event_given, load_given};
 ghost use Rattle.authority_laws.specs.Batches.{in_order};
 ghost use Rattle.shared_authority.specs.Journals.{IsJournal, Fits, caller_of};
-ghost use Rattle.shared_authority.specs.Passes.{Collects, CollectIsRefused, CollectsNow, Submitted, SubmitIsRefused, SubmitLoadIsRefused};
+ghost use Rattle.shared_authority.specs.Passes.{Collects, CollectIsRefused, CollectsNow, HadRoom, Submitted, SubmitIsRefused, SubmitLoadIsRefused};
 ghost use Rattle.history_lock.specs.declared.machine.TheConstants.{MOST_PASSES};
 
 use crate::collecting::{
@@ -94,6 +94,7 @@ impl<L: LimitsName, T: TableName> Shared<L, T> {
         requires event { IsStepped event }
         requires moment { moment ≤ 2 ^ 62 }
         ensures ok { IfOk result (λ place. Submitted pass.old (event_given pass.old.number moment salt event) place pass.new) }
+        ensures room { OnOk result (HadRoom L.limits pass.new.history) }
         ensures err { IfErr result (λ refused. SubmitIsRefused L.limits pass.old event refused pass.new) }
         ensures number { pass.new.number ≡ pass.old.number }
         ensures grows { IsPrefix pass.old.history pass.new.history }
@@ -131,6 +132,7 @@ impl<L: LimitsName, T: TableName> Shared<L, T> {
         requires event { IsStepped event }
         requires moment { moment ≤ 2 ^ 62 }
         ensures ok { IfOk result (λ (place, _). Submitted pass.old (event_given pass.old.number moment salt event) place pass.new) }
+        ensures room { OnOk result (HadRoom L.limits pass.new.history) }
         ensures collects { IfOk result (λ (_, now). CollectsNow L.limits collector.old of now collector.new) }
         ensures err { IfErr result (λ refused. SubmitIsRefused L.limits pass.old event refused pass.new × (collector.new ≡ collector.old)) }
         ensures number { (pass.new.number ≡ pass.old.number) × (collector.new.number ≡ collector.old.number) }
@@ -166,6 +168,7 @@ impl<L: LimitsName, T: TableName> Shared<L, T> {
     ) -> Result<u64, SubmitLoadRefused>
         requires moment { moment ≤ 2 ^ 62 }
         ensures ok { IfOk result (λ place. Submitted pass.old (load_given pass.old.number moment loaded) place pass.new) }
+        ensures room { OnOk result (HadRoom L.limits pass.new.history) }
         ensures err { IfErr result (λ refused. SubmitLoadIsRefused L.limits pass.old loaded refused pass.new) }
         ensures number { pass.new.number ≡ pass.old.number }
         ensures grows { IsPrefix pass.old.history pass.new.history }
@@ -207,6 +210,7 @@ impl<L: LimitsName, T: TableName> Shared<L, T> {
         of: u32,
     ) -> Result<Collected, CollectRefused>
         ensures ok { IfOk result (λ collected. Collects pass.old of collected pass.new) }
+        ensures room { OnOk result (HadRoom L.limits pass.new.history) }
         ensures err { IfErr result (λ refused. CollectIsRefused L.limits pass.old refused pass.new) }
         ensures number { pass.new.number ≡ pass.old.number }
         ensures grows { IsPrefix pass.old.history pass.new.history }
@@ -254,6 +258,18 @@ impl<L: LimitsName, T: TableName> Shared<L, T> {
         self.lock.end(rt, pass, cause)
     }
 
+    /// The kept cause, where the lock has ended. It fits what the pass then knows. The pass knows the
+    /// kept cause then, if there is one, and else that none was kept when it looked. It takes the lock
+    /// and no memory.
+    pub fn kept_cause<R: Wait>(&self, rt: &R, pass: &mut Pass<Kept<L>, T>) -> Option<EndCause>
+        ensures fits { IfSome result (λ cause. Fits L.limits cause pass.new.history pass.new.made) }
+        ensures learned { Learned caller_of IsJournal pass.old pass.new }
+        ensures top { pass.new.made ≤ MOST_PASSES }
+        ensures knows { pass.new.ended ≡ result }
+    {
+        self.lock.kept_cause(rt, pass)
+    }
+
     /// Two passes tell each other what they know. Both know the longer of the two histories then,
     /// of which the other is a beginning, and neither has an entry more of its own. A kept cause that
     /// one of them knew both know then. It takes neither the lock nor memory.
@@ -276,11 +292,13 @@ impl<L: LimitsName, T: TableName> Shared<L, T> {
     }
 
     /// Ends the lock's life and gives the authority back. Its journal begins with all that the pass
-    /// had seen, and is just that where the pass knew a kept cause. It takes no memory.
+    /// had seen, and is just that where the pass knew a kept cause. It has no more entries than the
+    /// limits allow. It takes no memory.
     pub fn close(self, pass: Pass<Kept<L>, T>) -> Authority
         ensures begins { IsPrefix pass.history (in_order result.history) }
         ensures ended { IfSome pass.ended (λ _. in_order result.history ≡ pass.history) }
         ensures legal { IsJournal (in_order result.history) }
+        ensures within { length result.history.entries ≤ L.limits.entries }
     {
         let Shared { lock } = self;
         lock.close(pass).into_authority()

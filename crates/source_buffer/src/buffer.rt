@@ -1,5 +1,5 @@
 // Bytes that were read and are not taken yet.
-ghost use Rattle.std.specs.Prelude.{◌≡◌, ◌+◌, ◌≤◌, ℕ, [], List, IsTrue, drop, take, length, ◌-◌, IfOk, OnOk};
+ghost use Rattle.std.specs.Prelude.{◌≡◌, ◌+◌, ◌<◌, ◌≤◌, ℕ, [], List, IsTrue, drop, take, length, ◌-◌, IfOk, OnOk};
 ghost use Rattle.pk_outside.specs.Causes.{HasCause};
 ghost use Rattle.pk_outside.specs.Streams.{Gave, ReadGave};
 ghost use Rattle.source_buffer.specs.Filling.{Brings, ReadFaults};
@@ -141,10 +141,16 @@ impl SourceBuffer {
         self.end = left;
     }
 
-    /// Reads once, behind the bytes. Room is made before, so that nothing is lost where memory is
-    /// refused. What was taken is dropped here and not at each `take`, since many lines and messages
-    /// come with one read.
-    pub(crate) fn read_once<I: Source>(&mut self, input: &mut I) -> Result<usize, Unread>
+    /// Reads once, behind the bytes, since fewer of them stand than are awaited: whoever waits for an
+    /// answer to what he sent is answered before more is read. Room is made before, so that nothing is
+    /// lost where memory is refused. What was taken is dropped here and not at each `take`, since many
+    /// lines and messages come with one read.
+    pub(crate) fn read_once<I: Source>(
+        &mut self,
+        input: &mut I,
+        _awaited: usize,
+    ) -> Result<usize, Unread>
+        requires fewer { length self.old < _awaited }
         ensures brings { (piece : List ℕ) × Gave (I.left input.old) (I.left input.new) piece × Brings self.old piece self.new result }
         ensures end { IfOk result (λ n. n ≡ 0 → IsTrue (I.ended input.new)) }
         ensures faults { ReadFaults I.left I.faults input.old input.new result }

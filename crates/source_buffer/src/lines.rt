@@ -92,7 +92,7 @@ impl SourceBuffer {
                 Ok(Piece::TooLong) => return LineRead::TooLong,
                 Ok(Piece::Open) => {}
             }
-            match self.read_once(input) {
+            match self.read_once(input, 1) {
                 Err(Unread::Failed) => return LineRead::ReadFault,
                 Err(Unread::NoMemory) => return LineRead::NoMemory,
                 Ok(0) => {

@@ -5,14 +5,14 @@ use Rattle.history_lock.proofs.Prefixes.{prefix_trans}
 use Rattle.serve_loader.proofs.Going.{unconnected_learned}
 use Rattle.authority_service.proofs.Closing.{short_none}
 use Rattle.authority_service.proofs.FirstLoad.{begins_longer}
-use Rattle.authority_service.proofs.RunsEnd.{begins_closed, closed_run, fits_same, ok_to, some_longer}
+use Rattle.authority_service.proofs.RunsEnd.{begins_closed, closed_run, fits_same, ok_to, some_longer, within_same}
 use Rattle.authority_service.proofs.top.run_begun.Goals as goal
 
 pub returns-in-Err-clause-ran : goal.returns-in-Err-clause-ran
 returns-in-Err-clause-ran g c = λ first begins.
     let e = c.closed.ensures in
     closed_run c.args.plan.now first _ c.closed.result.authority.history c.closed.result.slots.items c.closed.result.cause c.in-Err.cause
-    e.legal (begins_closed first c.args.zero.history c.admit_one.new.control.history _ begins c.requires.some c.admit_one.ensures.grows e.journal) refl e.slots e.cause
+    e.legal (within_same c.args.plan.now.limits g.L.LimitsName.limits _ c.requires.limits e.within) (begins_closed first c.args.zero.history c.admit_one.new.control.history _ begins c.requires.some c.admit_one.ensures.grows e.journal) refl e.slots e.cause
     (fits_same c.args.plan.now.limits g.L.LimitsName.limits c.in-Err.cause _ c.requires.limits e.fits)
 
 pub run_passes-requires-clause-zero : goal.run_passes-requires-clause-zero
@@ -42,7 +42,7 @@ returns-in-Err-Ended-clause-ran g c = λ first begins.
     let e = c.closed-in-Err-Ended.ensures in
     let known : IsPrefix c.admit_one.new.control.history c.admit_passes.new.control.history = subst (λ (h : List Item). IsPrefix h c.admit_passes.new.control.history) c.in-Ok.ensures.same c.admit_passes.ensures.grows in
     closed_run c.args.plan.now first _ c.closed-in-Err-Ended.result.authority.history c.closed-in-Err-Ended.result.slots.items c.closed-in-Err-Ended.result.cause _
-    e.legal
+    e.legal (within_same c.args.plan.now.limits g.L.LimitsName.limits _ c.requires.limits e.within)
     (begins_closed first c.args.zero.history c.admit_passes.new.control.history _ begins c.requires.some
     (prefix_trans c.args.zero.history c.admit_one.new.control.history c.admit_passes.new.control.history c.admit_one.ensures.grows known) e.journal)
     refl e.slots e.cause (fits_same c.args.plan.now.limits g.L.LimitsName.limits _ _ c.requires.limits e.fits)

@@ -29,10 +29,10 @@ returns-in-Ok-open_slots-clause-ran g c = λ first begins.
     let opens = opens_at _ plan.doors plan.slots (vec_len c.open_slots.new.slots) t0 t1 _ c.as_slice.ensures.items o.doors in
     let (doors, shuts, same) = r.doors in
     slots_run plan g.L.LimitsName.limits first _ c.run_slots.result.authority.history c.run_slots.result.slots.items c.run_slots.result.cause (vec_len c.open_slots.new.slots) (g.N.Station.faults c.open_slots.new.station)
-    c.requires.limits r.legal (begins_longer first c.args.zero.history (in_order c.run_slots.result.authority.history) begins c.requires.some r.begins)
+    c.requires.limits r.legal r.within (begins_longer first c.args.zero.history (in_order c.run_slots.result.authority.history) begins c.requires.some r.begins)
     (λ none. record {
       where_told = (λ t e.
-          let (mid, mid_is, backs, shut, told, left) = shuts.where_told t e in
+          let (mid, mid_is, backs, told, left) = shuts.where_told t e in
           (r.slots (λ i d lt. o.slots mid (slice_index_or c.open_slots.new.slots.items i d).pass.history mid_is i d lt)
           (opened_none c.as_slice.result.now plan.slots (vec_len c.open_slots.new.slots) t0 t1 _ c.args.control.history o.doors none)).where_told t e);
     })
@@ -41,7 +41,7 @@ returns-in-Ok-open_slots-clause-ran g c = λ first begins.
     r.all r.cause r.loaded r.whole r.stops o.cause.later
     (λ served. record {
       where_told = (λ t e.
-          let (mid, mid_is, backs, shut, told, left) = shuts.where_told t e in
+          let (mid, mid_is, backs, told, left) = shuts.where_told t e in
           (opened_done c.as_slice.result.now plan.slots (vec_len c.open_slots.new.slots) t0 t1 t2 _ plan.stop_after o.doors
           (r.done (λ i d lt. o.slots mid (slice_index_or c.open_slots.new.slots.items i d).pass.history mid_is i d lt) served)).where_told t e);
     })
@@ -60,7 +60,7 @@ returns-in-Err-clause-short g c =
       back = doors_back plan (vec_len c.open_slots.new.slots) t0 t1 t2 _ _ opens s.doors (made_again _ _ _ _ refl);
       unserved = (λ none. record {
         where_told = (λ t e.
-            let (mid, mid_is, backs, shut, told, left) = s.doors.where_told t e in
+            let (mid, mid_is, backs, told, left) = s.doors.where_told t e in
             (unserved_told c.shut_slots.new.control.history t2 _ (flat_same _ _ c.shut_slots.new.shut.items c.open_slots.new.slots.items s.lines ∙ flat_none _ c.open_slots.new.slots.items (λ i d lt. (o.new i d lt).0))
             (s.slots (λ i d lt. o.slots mid (slice_index_or c.open_slots.new.slots.items i d).pass.history mid_is i d lt)
             (opened_none c.as_slice.result.now plan.slots (vec_len c.open_slots.new.slots) t0 t1 _ c.args.control.history o.doors none))).where_told t e);

@@ -6,7 +6,7 @@ use Rattle.scenario_text.specs.Skipped.{skipped_lines}
 use Rattle.authority_service.specs.declared.top.Unbegun.{Unbegun}
 use Rattle.authority_service.specs.Begun.{HasRun, UnbegunCause}
 use Rattle.authority_service.proofs.Closing.{doors_none}
-use Rattle.authority_service.proofs.Serving.{got_front, serves_told, unbegun_short}
+use Rattle.authority_service.proofs.Serving.{serves_told, unbegun_short}
 use Rattle.authority_service.proofs.top.serve_loaded.Goals as goal
 
 pub returns-in-Err : goal.returns-in-Err
@@ -22,7 +22,7 @@ returns-in-Err g c = record {
           doors = 0;
           back = doors_none c.args.plan.now (g.N.Station.told c.args.station.now);
           unserved = (λ none. none);
-          written = subst (λ (b : List ℕ). GotFront (g.O.Sink.held c.args.output.now) (g.O.Sink.held c.write_all.new.output) b) bytes c.in-Err.ensures.err;
+          written = inr (subst (λ (b : List ℕ). GotFront (g.O.Sink.held c.args.output.now) (g.O.Sink.held c.write_all.new.output) b) bytes c.in-Err.ensures.err, rose);
         }),
       ));
 }
@@ -44,8 +44,7 @@ returns g c = record {
   served = (λ told from same is_first.
       let bytes : c.as_slice-2.result.now ≡ skipped_lines c.args.first.faults = c.as_slice-2.ensures.items ∙ (c.in-Ok.ensures.lines ∙ ap skipped_lines c.as_slice.ensures.items) in
       let got = subst (λ (b : List ℕ). Got (g.O.Sink.held c.args.output.now) (g.O.Sink.held c.write_all.new.output) b) bytes c.in-Ok-write_all.ensures.ok in
-      inr (inl (unbegun_short c.args.plan.now c.args.first _ _ _ refl refl c.in-Err-NoMemory.ensures.short is_first
-      (got_front (g.O.Sink.held c.args.output.now) (g.O.Sink.held c.write_all.new.output) (skipped_lines c.args.first.faults) got))));
+      inr (inl (unbegun_short c.args.plan.now c.args.first _ _ _ refl refl c.in-Err-NoMemory.ensures.short is_first (inl got))));
 }
 
 pub returns-in-Err-DoorFault : goal.returns-in-Err-DoorFault
@@ -55,6 +54,6 @@ returns-in-Err-DoorFault g c = record {
       let got = subst (λ (b : List ℕ). Got (g.O.Sink.held c.args.output.now) (g.O.Sink.held c.write_all.new.output) b) bytes c.in-Ok-write_all.ensures.ok in
       let short = c.in-Err-DoorFault.ensures.short in (
         subst (λ (why : Unbegun). UnbegunCause (g.N.Station.faults c.args.station.now) (g.N.Station.faults c.run_named.new.station) why) c.in-Err-DoorFault.field-0-is short.cause,
-        inl (unbegun_short c.args.plan.now c.args.first _ _ _ refl refl short is_first (got_front (g.O.Sink.held c.args.output.now) (g.O.Sink.held c.write_all.new.output) (skipped_lines c.args.first.faults) got)),
+        inl (unbegun_short c.args.plan.now c.args.first _ _ _ refl refl short is_first (inl got)),
       ));
 }

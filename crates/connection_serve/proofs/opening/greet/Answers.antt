@@ -1,3 +1,5 @@
+use Rattle.std.proofs.Common.{Option, List, ℕ, sym, ◌∙◌, subst}
+use Rattle.connection_serve.specs.Halves.{HasBegun}
 use Rattle.connection_serve.proofs.Causes.{fails_rose}
 use Rattle.connection_serve.proofs.Greetings.{begins, ends_at_once, ends_by_cut, ends_by_fault, ends_by_memory, ends_by_read, ends_by_write}
 use Rattle.connection_serve.proofs.opening.greet.Goals as goal
@@ -6,7 +8,13 @@ pub returns-in_default-clause-greets : goal.returns-in_default-clause-greets
 returns-in_default-clause-greets g c = ends_at_once c.args.uid c.args.guid _ _ _ _
 
 pub returns-in-Begun-clause-greets : goal.returns-in-Begun-clause-greets
-returns-in-Begun-clause-greets g c = (begins c.args.uid c.args.guid _ c.in-Ok.ensures.empty _ _ _ _ _ _ 0 0 0 0 c.in-Begun.ensures.opens, c.in-Begun.ensures.read, c.in-Begun.ensures.write)
+returns-in-Begun-clause-greets g c =
+    let lifted = c.lift_time_limit.ensures in (
+      subst (λ (l : Option (List ℕ)). HasBegun c.args.uid c.args.guid (g.I.Source.left c.args.source.now) l (g.O.Sink.held c.args.sink.now) (g.O.Sink.held c.open_link.new.sink) c.open_link.new.buffer) (sym lifted.left)
+          (begins c.args.uid c.args.guid _ c.in-Ok.ensures.empty _ _ _ _ _ _ 0 0 0 0 c.in-Begun.ensures.opens),
+      lifted.count ∙ c.in-Begun.ensures.read,
+      c.in-Begun.ensures.write,
+    )
 
 pub returns-in-BadShake-clause-greets : goal.returns-in-BadShake-clause-greets
 returns-in-BadShake-clause-greets g c = ends_by_fault c.args.uid c.args.guid _ c.in-Ok.ensures.empty _ _ _ _ _ _ _ _ _ _ c.in-BadShake.fault c.in-BadShake.ensures.opens

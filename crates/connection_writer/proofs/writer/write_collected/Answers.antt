@@ -1,4 +1,6 @@
-use Rattle.std.proofs.Common.{subst, arith}
+use Rattle.std.proofs.Common.{Option, List, ℕ, false, sym, subst, arith}
+use Rattle.pk_outside.specs.Streams.{Got, GotFront}
+use Rattle.connection_writer.specs.Writing.{Writing}
 use Rattle.connection_writer.specs.declared.ends.WriteStop.{WriteStop}
 use Rattle.connection_writer.specs.Written.{StopCause}
 use Rattle.connection_writer.proofs.Collecting.{told, refused_so}
@@ -43,15 +45,17 @@ returns-in-Err-Failed-clause-stands g c = λ before v of held faults collects so
 pub returns-in-Err-NoMemory-clause-stands : goal.returns-in-Err-NoMemory-clause-stands
 returns-in-Err-NoMemory-clause-stands g c = λ before v of held faults collects so.
     let i = c.in-Some-Ok-Batch in
-    batch_front held (g.O.Sink.held c.args.sink.now) (g.O.Sink.held c.write_batch.new.sink) of v before c.args.pass.now i.batch so.0
+    subst (λ (h : Option (List ℕ)). Writing false (GotFront held h) of v c.args.pass.now) (sym c.close.ensures.held)
+    (batch_front held (g.O.Sink.held c.args.sink.now) (g.O.Sink.held c.write_batch.new.sink) of v before c.args.pass.now i.batch so.0
     (told g.L.LimitsName.limits before c.args.pass.now of c.args.now i.field-0 i.field-0-0 (Batch i.batch) i.is i.field-0-is i.field-0-0-is collects)
-    c.in-Err-NoMemory.ensures.writes
+    c.in-Err-NoMemory.ensures.writes)
 
 pub returns-in-Some-Err-clause-stands : goal.returns-in-Some-Err-clause-stands
 returns-in-Some-Err-clause-stands g c = λ before v of held faults collects so.
     let i = c.in-Some-Err in (
-      refused_written g.L.LimitsName.limits held (g.O.Sink.held c.args.sink.now) of v before c.args.pass.now c.end-cause.new.pass i.refused so.0
-          (refused_so g.L.LimitsName.limits before c.args.pass.now of c.args.now i.field-0 i.refused i.is i.field-0-is collects) c.end-cause.ensures.learned,
+      subst (λ (h : Option (List ℕ)). Writing false (Got held h) of v c.end-cause.new.pass) (sym c.close-in-Some-Err.ensures.held)
+          (refused_written g.L.LimitsName.limits held (g.O.Sink.held c.args.sink.now) of v before c.args.pass.now c.end-cause.new.pass i.refused so.0
+          (refused_so g.L.LimitsName.limits before c.args.pass.now of c.args.now i.field-0 i.refused i.is i.field-0-is collects) c.end-cause.ensures.learned),
       c.end-cause.ensures.fits,
       c.end-cause.ensures.knows,
     )

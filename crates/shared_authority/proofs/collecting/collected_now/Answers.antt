@@ -9,5 +9,5 @@ use Rattle.shared_authority.proofs.collecting.collected_now.Goals as goal
 
 pub returns-in-Some : goal.returns-in-Some
 returns-in-Some c = λ limits v w of called.
-    c.collected_or_refused.ensures limits v w of
+    c.collected_or_refused.ensures.collects limits v w of
     (subst (λ (answer : Option (Result Reply (CallRefused Op Refusal))). CalledNow limits v (Collect of) answer w) c.in-Some.is called)

@@ -1,7 +1,8 @@
-use Rattle.std.proofs.Common.{◌≤◌, ◌∙◌, ap, sym, refl, subst}
+use Rattle.std.proofs.Common.{◌≡◌, ◌≤◌, false, ◌∙◌, ap, sym, refl, subst}
 use Rattle.authority_model.specs.declared.journal.TheConstants.{MAX_ENTRIES}
 use Rattle.authority_model.specs.declared.journal.Item.{Item}
 use Rattle.authority_model.specs.declared.journal.Limits.{Limits}
+use Rattle.authority_model.specs.Entering.{is_full}
 use Rattle.authority_model.specs.Items.{items_of}
 use Rattle.authority_model.specs.Given.{next, event_given, load_given}
 use Rattle.authority_laws.specs.Batches.{in_order, collect_given}
@@ -36,7 +37,7 @@ returns-in-Ok-clause-ok g c =
       i,
       order_grows h c.step.new.self.history given e.grows,
       refl,
-      subst (λ (op : Op). Gives c.args.caller op (in_order h) i (At c.in-Ok.place)) (sym c.in-Step.is) (refl, e.place ∙ sym (order_length h)),
+      record { gives = subst (λ (op : Op). Gives c.args.caller op (in_order h) i (At c.in-Ok.place)) (sym c.in-Step.is) (refl, e.place ∙ sym (order_length h)); room = subst (λ (l : Limits). is_full l (items_of h) ≡ false) c.args.self.now.named e.within },
       order_journal h c.step.new.self.history given c.args.self.now.authority.limits e.grows e.legal e.within few,
     )
 
@@ -50,7 +51,7 @@ returns-in-Ok-load-clause-ok g c =
       i,
       order_grows h c.load.new.self.history given e.grows,
       refl,
-      subst (λ (op : Op). Gives c.args.caller op (in_order h) i (At c.in-Ok-load.place)) (sym c.in-Load.is) (refl, e.place ∙ sym (order_length h)),
+      record { gives = subst (λ (op : Op). Gives c.args.caller op (in_order h) i (At c.in-Ok-load.place)) (sym c.in-Load.is) (refl, e.place ∙ sym (order_length h)); room = subst (λ (l : Limits). is_full l (items_of h) ≡ false) c.args.self.now.named e.within },
       order_journal h c.load.new.self.history given c.args.self.now.authority.limits e.grows e.legal e.within few,
     )
 
@@ -92,7 +93,7 @@ returns-in-Ok-collect-clause-ok g c =
       i,
       order_grows h c.collect.new.self.history given e.grows,
       refl,
-      subst (λ (op : Op). Gives c.args.caller op (in_order h) i (Batched c.in-Ok-collect.batch)) (sym c.in-Collect.is) (refl, e.batch),
+      record { gives = subst (λ (op : Op). Gives c.args.caller op (in_order h) i (Batched c.in-Ok-collect.batch)) (sym c.in-Collect.is) (refl, e.batch); room = subst (λ (l : Limits). is_full l (items_of h) ≡ false) c.args.self.now.named e.within },
       order_journal h c.collect.new.self.history given c.args.self.now.authority.limits e.grows e.legal e.within few,
     )
 

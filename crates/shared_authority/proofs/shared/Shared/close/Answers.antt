@@ -7,7 +7,7 @@ use Rattle.authority_laws.specs.Batches.{in_order}
 use Rattle.shared_authority.proofs.shared.Shared.close.Goals as goal
 
 pub returns-clause-begins : goal.returns-clause-begins
-returns-clause-begins g c = subst (λ (j : Journal). IsPrefix c.args.pass.history (in_order j.history)) (sym c.into_authority.ensures) c.close.ensures.begins
+returns-clause-begins g c = subst (λ (j : Journal). IsPrefix c.args.pass.history (in_order j.history)) (sym c.into_authority.ensures.same) c.close.ensures.begins
 
 pub returns-clause-ended : goal.returns-clause-ended
-returns-clause-ended g c = subst (λ (j : Journal). IfSome c.args.pass.ended (λ _. in_order j.history ≡ c.args.pass.history)) (sym c.into_authority.ensures) c.close.ensures.ended
+returns-clause-ended g c = subst (λ (j : Journal). IfSome c.args.pass.ended (λ _. in_order j.history ≡ c.args.pass.history)) (sym c.into_authority.ensures.same) c.close.ensures.ended

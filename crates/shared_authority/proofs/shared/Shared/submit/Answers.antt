@@ -1,12 +1,15 @@
-use Rattle.shared_authority.proofs.Entering.{step_placed, submitted}
+use Rattle.shared_authority.proofs.Entering.{had_room, step_placed, submitted}
 use Rattle.shared_authority.proofs.Refusing.{event_comes_back}
 use Rattle.shared_authority.proofs.shared.Shared.submit.Goals as goal
 
 pub into_place-requires : goal.into_place-requires
-into_place-requires g c = let a = c.in-Ok.ensures.ok in step_placed c.args.pass.now.number c.args.moment c.args.salt c.args.event a.learned.grown.before a.entry c.in-Ok.reply a.given
+into_place-requires g c = let a = c.in-Ok.ensures.ok in step_placed c.args.pass.now.number c.args.moment c.args.salt c.args.event a.learned.grown.before a.entry c.in-Ok.reply a.given.gives
 
 pub returns-in-Ok-clause-ok : goal.returns-in-Ok-clause-ok
-returns-in-Ok-clause-ok g c = submitted c.args.pass.now c.call.new.pass c.args.moment c.args.salt c.into_place.result c.args.event c.in-Ok.reply c.into_place.ensures c.in-Ok.ensures.ok
+returns-in-Ok-clause-ok g c = submitted g.L.LimitsName.limits c.args.pass.now c.call.new.pass c.args.moment c.args.salt c.into_place.result c.args.event c.in-Ok.reply c.into_place.ensures c.in-Ok.ensures.ok
+
+pub returns-in-Ok-clause-room : goal.returns-in-Ok-clause-room
+returns-in-Ok-clause-room g c = had_room g.L.LimitsName.limits c.args.pass.now c.call.new.pass _ c.in-Ok.reply c.in-Ok.ensures.ok
 
 pub submit_refused-requires : goal.submit_refused-requires
 submit_refused-requires g c = event_comes_back g.L.LimitsName.limits c.args.pass.now c.call.new.pass c.args.moment c.args.salt c.args.event c.in-Err.refused c.in-Err.ensures.err

@@ -6,6 +6,7 @@ use Rattle.source_buffer.proofs.buffer.SourceBuffer.fill.Given as goal
 abbrev pub invariant-reads : goal.invariant-reads
 invariant-reads g l = record {
   taken : (read : List ℕ) × Gave (g.I.Source.left l.fn.input) (g.I.Source.left l.input) read × (l.self ≡ l.fn.self ++ read);
+  idle : l.wanted ≤ length l.fn.self → (l.self ≡ l.fn.self) × (g.I.Source.left l.input ≡ g.I.Source.left l.fn.input);
   quiet : g.I.Source.faults l.input ≡ g.I.Source.faults l.fn.input;
   same : g.I.Source.origin l.input ≡ g.I.Source.origin l.fn.input;
   later : g.I.Source.faults l.fn.input ≤ g.I.Source.faults l.input;
