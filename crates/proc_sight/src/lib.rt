@@ -2,7 +2,5 @@
 #![tactic(auto)]
 
 mod stat;
-#[cfg(test)]
-mod tests;
 
 pub use stat::{StatFault, StatLine, read_stat};

@@ -1,0 +1,5 @@
+//! Audit texts: texts of all variants, first faults, and objects that fail.
+#![tactic(auto)]
+
+#[cfg(test)]
+mod texts;

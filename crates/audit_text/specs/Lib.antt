@@ -1,0 +1,5 @@
+pub mod Lines
+pub mod Audit
+pub mod Faults
+pub mod Outcomes
+pub mod Reads

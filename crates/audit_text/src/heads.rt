@@ -1,0 +1,117 @@
+// The lines that tell how many others follow.
+ghost use Rattle.std.specs.Prelude.{◌≡◌};
+ghost use Rattle.audit_words.specs.Reads.{Gives};
+ghost use Rattle.audit_text.specs.Audit.{load_head, load_head_of, text_head, version};
+
+use audit_values::Spell;
+use audit_words::{Kind, Stop, Words, push_number, push_plain};
+use authority_model::Loaded;
+use pk_types::NoMemory;
+
+/// How many lines a load has of each kind.
+#[derive(Clone, Copy)]
+pub struct LoadHead {
+    pub actions: u64,
+    pub rules: u64,
+    pub admins: u64,
+    pub users: u64,
+    pub groups: u64,
+    pub sessions: u64,
+    pub processes: u64,
+    pub faults: u64,
+}
+
+/// How many loads and entries a history has.
+#[derive(Clone, Copy)]
+pub struct TextHead {
+    pub loads: u64,
+    pub entries: u64,
+}
+
+impl LoadHead {
+    /// The lengths of a load.
+    pub fn of(load: &Loaded) -> LoadHead
+        ensures head { result ≡ load_head_of load.now }
+    {
+        LoadHead {
+            actions: load.policy.actions.len() as u64,
+            rules: load.policy.entries.len() as u64,
+            admins: load.policy.admins.len() as u64,
+            users: load.world.users.len() as u64,
+            groups: load.world.groups.len() as u64,
+            sessions: load.world.sessions.len() as u64,
+            processes: load.world.processes.len() as u64,
+            faults: load.faults.len() as u64,
+        }
+    }
+}
+
+impl Spell for LoadHead {
+    ghost codec = { load_head };
+
+    #[tactic(auto, using(audit_words::proofs::Written::write_rules))]
+    fn push_words(&self, line: &mut Vec<u8>) -> Result<(), NoMemory> {
+        push_number(line, self.actions)?;
+        push_number(line, self.rules)?;
+        push_number(line, self.admins)?;
+        push_number(line, self.users)?;
+        push_number(line, self.groups)?;
+        push_number(line, self.sessions)?;
+        push_number(line, self.processes)?;
+        push_number(line, self.faults)
+    }
+
+    fn take_from(words: &mut Words) -> Result<LoadHead, Stop> {
+        let actions = words.u32()?;
+        let rules = words.u32()?;
+        let admins = words.u32()?;
+        let users = words.u32()?;
+        let groups = words.u32()?;
+        let sessions = words.u32()?;
+        let processes = words.u32()?;
+        let faults = words.u32()?;
+        Ok(LoadHead {
+            actions: u64::from(actions),
+            rules: u64::from(rules),
+            admins: u64::from(admins),
+            users: u64::from(users),
+            groups: u64::from(groups),
+            sessions: u64::from(sessions),
+            processes: u64::from(processes),
+            faults: u64::from(faults),
+        })
+    }
+}
+
+/// Takes the version of the text, which is 1.
+fn take_version(words: &mut Words) -> Result<(), Stop>
+    ensures taken { Gives result words.new (version.take words.old) }
+{
+    let word = words.name()?;
+    if word == b"1".as_slice() {
+        Ok(())
+    } else {
+        Err(Stop::Fault(Kind::Value))
+    }
+}
+
+impl Spell for TextHead {
+    ghost codec = { text_head };
+
+    #[tactic(auto, using(audit_words::proofs::Written::write_rules))]
+    fn push_words(&self, line: &mut Vec<u8>) -> Result<(), NoMemory> {
+        push_plain(line, b"1")?;
+        push_number(line, self.loads)?;
+        push_number(line, self.entries)
+    }
+
+    fn take_from(words: &mut Words) -> Result<TextHead, Stop> {
+        take_version(words)?;
+        let loads = words.u32()?;
+        let entries = words.u64()?;
+        Ok(TextHead {
+            loads: u64::from(loads),
+            entries,
+        })
+    }
+}

@@ -1,0 +1,17 @@
+pub mod Tests
+pub mod Cleaning
+pub mod Basics
+pub mod Parts
+pub mod Numbers
+pub mod Names
+pub mod Chosen
+pub mod Listed
+pub mod Splits
+pub mod Written
+pub mod Escaping
+pub mod Loops
+pub mod TextWords
+pub mod Splitting
+pub mod Cutting
+pub mod SaltWords
+pub mod SaltBounds

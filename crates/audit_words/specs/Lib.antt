@@ -1,0 +1,6 @@
+pub mod Codecs
+pub mod Lines
+pub mod Faults
+pub mod Escapes
+pub mod Reads
+pub mod Salts
