@@ -30,9 +30,9 @@ fn is_in_any(globs: &[Text], text: &Text) -> bool
 pub fn matches_at(label: &Text, action: &Text, category: Category, entry: &RuleEntry) -> bool
     ensures matches { result ≡ matches_at label.now action.now category entry.now }
 {
-    is_in_any(entry.identities.as_slice(), label)
+    entry.value_for(category).is_some()
+        && is_in_any(entry.identities.as_slice(), label)
         && is_in_any(entry.actions.as_slice(), action)
-        && entry.value_for(category).is_some()
 }
 
 /// The last of these rules that matches at the place with this label.
