@@ -55,6 +55,13 @@ fn leaves(entry: &Entry, caller: u32) -> bool
     entry.caller == caller && is_depart(&entry.event)
 }
 
+/// Whether a registration is still in force after an entry, as far as a departure or a load ends it.
+fn stays(entry: &Entry, world: &World, agent: &Agent) -> bool
+    ensures stays { result ≡ stays entry.now world.now agent.now }
+{
+    !(leaves(entry, agent.caller) || is_unlisted(entry, world, &agent.key))
+}
+
 impl AgentRows {
     /// No registrations. It takes no memory.
     pub fn new(alloc: Global) -> AgentRows
@@ -127,7 +134,7 @@ impl AgentRows {
         self.rows.retain(
             |_key, agent| -> bool
                 ensures { (result ≡ stays entry.entry.now world.entry.now agent.old) × (agent.new ≡ agent.old) }
-            { !(leaves(entry, agent.caller) || is_unlisted(entry, world, &agent.key)) },
+            { stays(entry, world, agent) },
         );
     }
 
