@@ -1,3 +1,4 @@
 pub mod Numbers
 pub mod Stored
 pub mod Seen
+pub mod Counts

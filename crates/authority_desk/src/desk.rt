@@ -1,5 +1,5 @@
 // The desk: the tables of some legal history.
-ghost use Rattle.std.specs.Prelude.{◌≡◌, ◌+◌, ◌≤◌, ◌^◌, [], IfErr, IfOk, IfSome, OnErr, OnOk, List, None, Some};
+ghost use Rattle.std.specs.Prelude.{◌≡◌, ◌+◌, ◌<◌, ◌≤◌, ◌^◌, [], IfErr, IfOk, IfSome, OnErr, OnOk, List, None, Some, length};
 ghost use Rattle.authority_model.specs.declared.journal.Item.{Item};
 ghost use Rattle.authority_laws.specs.Batches.{collect_given};
 ghost use Rattle.authority_model.specs.Given.{IsProperEvent, IsStepped, event_given, load_given};
@@ -7,8 +7,10 @@ ghost use Rattle.authority_model.specs.Small.{IsShort};
 ghost use Rattle.journal_view.specs.Seen.{IsSeenOf};
 ghost use Rattle.authority_desk.specs.declared.desk.DeskLoadRefused.TheVariants as load_refused;
 ghost use Rattle.authority_desk.specs.declared.desk.DeskRefused.TheVariants as refused;
+ghost use Rattle.authority_desk.specs.Counts.{counts_of, counts_seen};
 ghost use Rattle.authority_desk.specs.Seen.{CarriesOn, IsAnswered, IsDeskFor, IsNext, StandsNext, desk_seen, seen_of};
 
+use crate::counts::DeskCounts;
 use crate::numbers::DeskNumbers;
 use crate::view::DeskView;
 use agent_registry::AgentRegistry;
@@ -89,6 +91,17 @@ impl Desk {
         ensures numbers { result ≡ self.now.numbers }
     {
         self.lookups.numbers
+    }
+
+    /// How many of each kind there are, and how many entries and outputs were made. It takes no memory.
+    ///
+    /// A number that 32 bits do not hold is told as their greatest; none is that great before there are
+    /// 2^32 entries.
+    pub fn counts(&self) -> DeskCounts
+        ensures seen { result ≡ counts_seen self.now }
+        ensures counts { (past : List Item) → IsDeskFor past self.now → length past < 2 ^ 32 → result ≡ counts_of past }
+    {
+        self.lookups.desk_counts()
     }
 
     /// The connections and the outputs to each. It takes no memory.

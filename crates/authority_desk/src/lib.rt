@@ -6,11 +6,13 @@
 //! and then they are carried on by the entry, so that a refusal leaves everything as it was.
 #![tactic(auto)]
 
+mod counts;
 mod desk;
 mod numbers;
 mod tables;
 mod view;
 
+pub use counts::DeskCounts;
 pub use desk::{Desk, DeskLoadRefused, DeskRefused};
 pub use numbers::DeskNumbers;
 pub use tables::Tables;

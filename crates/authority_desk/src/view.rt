@@ -1,10 +1,12 @@
 // What answering looks things up in.
 ghost use Rattle.std.specs.Prelude.{◌≡◌, ◌<◌, ◌^◌, [], None, Some, IfOk, IfErr, IfSome, OnErr, OnOk};
+ghost use Rattle.authority_desk.specs.Counts.{counts_seen};
 ghost use Rattle.authority_desk.specs.Numbers.{numbers_after};
 ghost use Rattle.authority_desk.specs.Seen.{IsDeskFor, IsNext, StandsNext, desk_seen};
 ghost use Rattle.authority_desk.specs.Stored.{AreIdle};
 ghost use Rattle.authority_model.specs.Items.{empty_loaded};
 
+use crate::counts::{DeskCounts, in_word};
 use crate::numbers::DeskNumbers;
 use crate::tables::Tables;
 use authority_model::{
@@ -40,6 +42,21 @@ impl DeskView {
             loaded: Rulebook::empty(alloc),
             numbers: DeskNumbers::start(),
         })
+    }
+
+    /// How many of each kind there are.
+    pub(crate) fn desk_counts(&self) -> DeskCounts
+        ensures seen { result ≡ counts_seen (desk_seen self.now) }
+    {
+        let grants = self.tables.grants.live_count(self.numbers.last_moment);
+        DeskCounts {
+            live: in_word(self.tables.peers.live_len()),
+            agents: self.tables.agents.count(),
+            pending: in_word(self.tables.challenges.len()),
+            grants: in_word(grants),
+            entries: self.tables.peers.entries(),
+            outputs: self.numbers.outputs,
+        }
     }
 
     /// What is counted with an entry more that changes this. `None` where there are `MAX_DESK_ENTRIES`

@@ -5,7 +5,7 @@ ghost use Rattle.std.specs.Map.{values_of};
 ghost use Rattle.authority_model.specs.declared.verdict.GrantRow.{GrantRow as TheRow};
 ghost use Rattle.authority_model.specs.Lists.{Each};
 ghost use Rattle.authority_model.specs.Keys.{key_seen, same_key};
-ghost use Rattle.authority_model.specs.Deciding.{serves};
+ghost use Rattle.authority_model.specs.Deciding.{is_live_at, serves};
 ghost use Rattle.entry_changes.specs.Changes.{unlisted, grant_named};
 ghost use Rattle.grant_store.specs.Listed.{LeadTo, rows_under};
 ghost use Rattle.grant_store.specs.Rows.{AreInTurn, HasExpiredBefore};
@@ -93,6 +93,16 @@ impl GrantRows {
         ensures row { option_copied result ≡ grant_named text.now self.now.items }
     {
         self.rows.values().find(|row| row.is_named(text))
+    }
+
+    /// How many have not expired at a moment.
+    pub fn live_count(&self, moment: u64) -> usize
+        ensures count { result ≡ length (filter (is_live_at moment) self.now.items) }
+    {
+        self.rows
+            .values()
+            .filter(|row| row.is_live_at(moment))
+            .count()
     }
 
     /// A place before which all have expired at a moment. It is found without looking at each of them.

@@ -1,12 +1,12 @@
 // The temporary authorizations that nothing ended, and the change of them that is staged.
-ghost use Rattle.std.specs.Prelude.{◌≡◌, ◌<◌, ◌==◌, [], None, Some, IsSome, find, length, slice_get, OnOk, OnErr, IfOk};
+ghost use Rattle.std.specs.Prelude.{◌≡◌, ◌<◌, ◌==◌, [], None, Some, IsSome, filter, find, length, slice_get, OnOk, OnErr, IfOk};
 ghost use Rattle.std.specs.Option.{option_copied, option_map};
 ghost use Rattle.authority_model.specs.declared.verdict.GrantRow.{GrantRow as TheRow};
 ghost use Rattle.entry_changes.specs.declared.change.GrantChange.{GrantChange as TheChange};
 ghost use Rattle.entry_changes.specs.declared.change.GrantChange.TheVariants.{Add};
 ghost use Rattle.authority_model.specs.Lists.{Each};
 ghost use Rattle.authority_model.specs.Keys.{key_seen};
-ghost use Rattle.authority_model.specs.Deciding.{serves};
+ghost use Rattle.authority_model.specs.Deciding.{is_live_at, serves};
 ghost use Rattle.entry_changes.specs.Changes.{after_grants, grant_named};
 
 use crate::by_key::{KeyNumbers, numbers_of};
@@ -102,6 +102,13 @@ impl GrantStore {
         ensures row { option_copied result ≡ slice_get self.now.items i }
     {
         self.rows.nth(i)
+    }
+
+    /// How many have not expired at a moment.
+    pub fn live_count(&self, moment: u64) -> usize
+        ensures count { result ≡ length (filter (is_live_at moment) self.now.items) }
+    {
+        self.rows.live_count(moment)
     }
 
     /// Takes all memory that an entry with this change needs. Nothing is staged after a refusal, and the
