@@ -3,3 +3,4 @@ pub mod Refusals
 pub mod Collecting
 pub mod Entered
 pub mod Kept
+pub mod Unlisting

@@ -2,7 +2,7 @@
 ghost use Rattle.std.specs.Prelude.{◌≡◌, ◌≤◌, ◌^◌, ◌++◌, ◌∷◌, [], false, true, max, length, slice_get, IfOk, IfErr, OnOk, OnErr};
 ghost use Rattle.std.specs.Option.{option_copied, option_map};
 ghost use Rattle.authority_laws.specs.Batches.{IsBatch, collect_given};
-ghost use Rattle.authority_model.specs.Items.{items_of, policy_of, sent};
+ghost use Rattle.authority_model.specs.Items.{items_of, loaded_of, policy_of, sent};
 ghost use Rattle.authority_model.specs.Legal.{IsLegal, last_moment};
 ghost use Rattle.authority_model.specs.Licensed.{AllLicensed};
 ghost use Rattle.authority_model.specs.Deciding.{decision as decision_on, told_decision};
@@ -11,9 +11,11 @@ ghost use Rattle.authority_model.specs.Given.{IsStepped, event_given, load_given
 ghost use Rattle.authority_model.specs.Sent.{is_ready};
 ghost use Rattle.authority_desk.specs.Seen.{IsDeskFor};
 ghost use Rattle.authority_core.specs.Collecting.{numbered_output};
+ghost use Rattle.authority_core.specs.Unlisting.{lists_process, unlisted};
 
 use crate::collecting::{Batch, CollectStepRefused, batch_of, output_to};
 use crate::entering::{enter, enter_collect, enter_load};
+use crate::unlisting::without_process;
 use authority_desk::Desk;
 use authority_model::{Decision, Entry, Event, History, Limits, Loaded, Output};
 use journal_costs::cost_of_load;
@@ -51,6 +53,16 @@ pub enum LoadStepRefused {
     },
 }
 
+/// Why no load without a process was added. Nothing has changed.
+#[derive(Clone, Copy, Debug, PartialEq, Eq)]
+pub enum UnlistRefused {
+    /// The last load does not list the process.
+    NotListed,
+    /// The journal has reached its limit of entries or of bytes. It has this many.
+    JournalFull { entries: u64, bytes: u64 },
+    NoMemory,
+}
+
 /// The authority on one thread. It is seen as its journal, which is legal, and its limits.
 #[derive(Drop)]
 pub struct Authority {
@@ -77,7 +89,7 @@ impl Model for Authority {
 
 impl Authority {
     ghost use Rattle.authority_model.specs.Entering.{AreAllowed, is_full};
-    ghost use Rattle.authority_core.specs.Refusals.{IsStepRefused, IsLoadRefused, IsCollectRefused};
+    ghost use Rattle.authority_core.specs.Refusals.{IsStepRefused, IsLoadRefused, IsCollectRefused, IsUnlistRefused};
 
     /// An authority whose journal is empty.
     pub fn start(alloc: Global, limits: Limits) -> Result<Authority, NoMemory>
@@ -289,6 +301,55 @@ impl Authority {
                 Ok(place)
             }
             Err(loaded) => Err(LoadStepRefused::NoMemory { loaded }),
+        }
+    }
+
+    /// Adds the entry of a load that is the last one without a process, and answers its place, counted
+    /// from 0. So what rests on the process ends, as where the root no longer lists it.
+    ///
+    /// No row of the new load has this pid and this start, and it has no faults. Its entry has the
+    /// greatest moment handed in so far and the salt 0.
+    ///
+    /// # Errors
+    /// 1 `NotListed` exactly where the last load has no such row; 2 `JournalFull` as for `step`; 3
+    /// `NoMemory`. All leave the authority as it was.
+    pub fn unlist(
+        &mut self,
+        caller: u32,
+        moment: u64,
+        pid: u32,
+        start: u64,
+    ) -> Result<u64, UnlistRefused>
+        requires moment { moment ≤ 2 ^ 62 }
+        ensures place { IfOk result (λ place. place ≡ length self.old.history.entries) }
+        ensures grows { OnOk result (Grows self.old.history self.new.history (load_given caller moment (unlisted (loaded_of (items_of self.old.history)) pid start))) }
+        ensures entry { OnOk result (self.new.history.entries ≡ self.old.history.entries ++ (next (items_of self.old.history) (load_given caller moment (unlisted (loaded_of (items_of self.old.history)) pid start))).entry ∷ []) }
+        ensures loads { OnOk result (self.new.history.loads ≡ self.old.history.loads ++ unlisted (loaded_of (items_of self.old.history)) pid start ∷ []) }
+        ensures listed { OnOk result (lists_process (loaded_of (items_of self.old.history)) pid start ≡ true) }
+
+        ensures limits { self.new.limits ≡ self.old.limits }
+        ensures err { OnErr result (self.new ≡ self.old) }
+        ensures legal { IsLegal self.new.history }
+        ensures within { OnOk result (is_full self.old.limits (items_of self.old.history) ≡ false) }
+        ensures refused { IfErr result (IsUnlistRefused self.old pid start) }
+    {
+        let loaded = self.desk.as_ref().loaded();
+        if loaded.world.process(pid, start).is_none() {
+            return Err(UnlistRefused::NotListed);
+        }
+        let Ok(rest) = without_process(self.alloc, loaded, pid, start) else {
+            return Err(UnlistRefused::NoMemory);
+        };
+        match self.load(caller, moment, rest) {
+            Ok(place) => Ok(place),
+            Err(
+                LoadStepRefused::JournalFull {
+                    entries,
+                    bytes,
+                    loaded: _,
+                },
+            ) => Err(UnlistRefused::JournalFull { entries, bytes }),
+            Err(LoadStepRefused::NoMemory { loaded: _ }) => Err(UnlistRefused::NoMemory),
         }
     }
 

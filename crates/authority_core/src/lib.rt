@@ -10,7 +10,8 @@ mod authority;
 mod collecting;
 mod copies;
 mod entering;
+mod unlisting;
 
-pub use authority::{Authority, LoadStepRefused, StepRefused};
+pub use authority::{Authority, LoadStepRefused, StepRefused, UnlistRefused};
 pub use authority_model::Limits;
 pub use collecting::{Batch, CollectStepRefused};
