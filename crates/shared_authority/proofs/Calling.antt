@@ -17,13 +17,13 @@ use Rattle.shared_authority.specs.Passes.{CalledNow, Collects, CollectIsRefused,
 
 -- a call that was made
 pub called : (limits : Limits) (v w : Known Item) (op : Op) (answer : Result Reply (CallRefused Op Refusal)) → IfOk answer (λ reply. Answered caller_of IsJournal IsReady (GivesWithin limits) v op reply w)
-    → IfErr answer (λ refused. Refused caller_of IsJournal (λ n given list refusal. Refuses limits list refusal) (Fits limits) v op refused w) → CalledNow limits v op (Some answer) w
+    → IfErr answer (λ refused. Refused caller_of IsJournal (λ n op list refusal. Refuses limits op list refusal) (Fits limits) v op refused w) → CalledNow limits v op (Some answer) w
 called limits v w op (Ok reply) ok err = ok
 called limits v w op (Err refused) ok err = err
 
 -- a call that was made only if it need not wait
 pub called_now : (limits : Limits) (v w : Known Item) (op : Op) (answer : Option (Result Reply (CallRefused Op Refusal))) → (answer ≡ None → w ≡ v) → IfSome answer (λ a. IfOk a (λ reply. Answered caller_of IsJournal IsReady (GivesWithin limits) v op reply w))
-    → IfSome answer (λ a. IfErr a (λ refused. Refused caller_of IsJournal (λ n given list refusal. Refuses limits list refusal) (Fits limits) v op refused w)) → CalledNow limits v op answer w
+    → IfSome answer (λ a. IfErr a (λ refused. Refused caller_of IsJournal (λ n op list refusal. Refuses limits op list refusal) (Fits limits) v op refused w)) → CalledNow limits v op answer w
 called_now limits v w op None none ok err = none refl
 called_now limits v w op (Some answer) none ok err = called limits v w op answer ok err
 

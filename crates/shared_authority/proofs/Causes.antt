@@ -1,5 +1,5 @@
 -- The cause of a refusal fits.
-use Rattle.std.proofs.Common.{◌≡◌, ℕ, List, sym, subst, arith}
+use Rattle.std.proofs.Common.{◌≡◌, ℕ, List, Option, Some, None, sym, subst, arith}
 use Rattle.history_lock.specs.Known.{Known}
 use Rattle.history_lock.specs.declared.machine.EndCause.{EndCause}
 use Rattle.history_lock.specs.declared.machine.EndCause.TheVariants.{JournalFull, NoMemory}
@@ -8,13 +8,15 @@ use Rattle.authority_model.specs.declared.journal.Item.{Item}
 use Rattle.authority_model.specs.declared.journal.Limits.{Limits}
 use Rattle.authority_model.specs.declared.load.Loaded.{Loaded}
 use Rattle.shared_authority.specs.Journals.{Fits, IsFullWith, WasFullWith}
-use Rattle.shared_authority.specs.Passes.{CollectIsRefused, SubmitIsRefused, SubmitLoadIsRefused}
+use Rattle.shared_authority.specs.Passes.{CollectIsRefused, SubmitIsRefused, SubmitLoadIsRefused, SubmitUnlistIsRefused}
 use Rattle.shared_authority.specs.declared.collecting.CollectRefused.{CollectRefused}
 use Rattle.shared_authority.specs.declared.collecting.CollectRefused.TheVariants as collect
 use Rattle.shared_authority.specs.declared.refused.SubmitRefused.{SubmitRefused}
 use Rattle.shared_authority.specs.declared.refused.SubmitRefused.TheVariants as submit
 use Rattle.shared_authority.specs.declared.refused.SubmitLoadRefused.{SubmitLoadRefused}
 use Rattle.shared_authority.specs.declared.refused.SubmitLoadRefused.TheVariants as submit_load
+use Rattle.shared_authority.specs.declared.refused.SubmitUnlistRefused.{SubmitUnlistRefused}
+use Rattle.shared_authority.specs.declared.refused.SubmitUnlistRefused.TheVariants as submit_unlist
 
 -- a full journal was full
 pub was_full : (limits : Limits) (list : List Item) (entries bytes : ℕ) → IsFullWith limits list entries bytes → WasFullWith limits list entries bytes
@@ -55,3 +57,17 @@ pub collect_fits : (r : CollectRefused) (cause : EndCause) → cause ≡ cause_o
 collect_fits (collect.Ended kept) cause is limits v w refused = subst (λ (c : EndCause). Fits limits c w.history w.made) (sym is) refused.fits
 collect_fits (collect.JournalFull entries bytes) cause is limits v w refused = subst (λ (c : EndCause). Fits limits c w.history w.made) (sym is) (was_full limits w.history entries bytes refused.full)
 collect_fits collect.NoMemory cause is limits v w refused = subst (λ (c : EndCause). Fits limits c w.history w.made) (sym is) tt
+
+-- the cause of a refused Unlist, if it is one
+abbrev pub cause_of_unlist : SubmitUnlistRefused → Option EndCause
+cause_of_unlist (submit_unlist.Ended cause) = Some cause
+cause_of_unlist submit_unlist.NotListed = None
+cause_of_unlist (submit_unlist.JournalFull entries bytes) = Some (JournalFull entries bytes)
+cause_of_unlist submit_unlist.NoMemory = Some NoMemory
+
+-- a cause of a refused Unlist fits what the pass knows
+pub unlist_fits : (r : SubmitUnlistRefused) (cause : EndCause) → cause_of_unlist r ≡ Some cause → (limits : Limits) (v w : Known Item) (pid start : ℕ) → SubmitUnlistIsRefused limits v pid start r w → Fits limits cause w.history w.made
+unlist_fits (submit_unlist.Ended kept) cause is limits v w pid start refused = subst (λ (c : EndCause). Fits limits c w.history w.made) (let same : kept ≡ cause = cc in same) refused.fits
+unlist_fits submit_unlist.NotListed cause is limits v w pid start refused = absurd (cc)
+unlist_fits (submit_unlist.JournalFull entries bytes) cause is limits v w pid start refused = subst (λ (c : EndCause). Fits limits c w.history w.made) (let same : JournalFull entries bytes ≡ cause = cc in same) (was_full limits w.history entries bytes refused.0.full)
+unlist_fits submit_unlist.NoMemory cause is limits v w pid start refused = subst (λ (c : EndCause). Fits limits c w.history w.made) (let same : NoMemory ≡ cause = cc in same) tt

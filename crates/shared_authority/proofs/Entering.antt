@@ -4,7 +4,8 @@ use Rattle.std.specs.Prelude.{IsSome, nat_lt}
 use Rattle.std.proofs.lemmas.Bool.Decides.{nat_tests}
 use Rattle.std.proofs.lemmas.List.{length-drop, reverse-append}
 use Rattle.authority_core.specs.declared.collecting.Batch.{Batch}
-use Rattle.authority_model.specs.Items.{sent}
+use Rattle.authority_core.specs.Unlisting.{unlisted}
+use Rattle.authority_model.specs.Items.{loaded_of, sent}
 use Rattle.authority_model.specs.Peers.{departed}
 use Rattle.authority_model.specs.Sent.{sent_to, collected, batch}
 use Rattle.authority_laws.proofs.Batching.{sent_counted}
@@ -19,12 +20,12 @@ use Rattle.authority_model.specs.declared.journal.Limits.{Limits}
 use Rattle.authority_model.specs.declared.load.Loaded.{Loaded}
 use Rattle.authority_model.specs.Given.{event_given, load_given}
 use Rattle.shared_authority.specs.declared.operation.Op.{Op}
-use Rattle.shared_authority.specs.declared.operation.Op.TheVariants.{Step, Load, Collect}
+use Rattle.shared_authority.specs.declared.operation.Op.TheVariants.{Step, Load, Unlist, Collect}
 use Rattle.shared_authority.specs.declared.operation.Reply.{Reply}
 use Rattle.shared_authority.specs.declared.operation.Reply.TheVariants.{At, Batch as Batched}
 use Rattle.shared_authority.specs.Journals.{IsJournal, caller_of, past_of}
 use Rattle.shared_authority.specs.Machines.{IsReady, Gives, GivesWithin, batch_in, place_in}
-use Rattle.shared_authority.specs.Passes.{Collects, HadRoom, Submitted, Tells, TookBatch, TookNothing}
+use Rattle.shared_authority.specs.Passes.{Collects, HadRoom, Submitted, Tells, TookBatch, TookNothing, Unlisted}
 
 -- the reply to an event has a place
 pub step_placed : (n moment salt : ℕ) (event : Event) (list : List Item) (i : Item) (reply : Reply) → Gives n (Step moment salt event) list i reply → IsSome (place_in reply)
@@ -36,6 +37,11 @@ pub load_placed : (n moment : ℕ) (loaded : Loaded) (list : List Item) (i : Ite
 load_placed n moment loaded list i (At place) given = refl
 load_placed n moment loaded list i (Batched b) given = absurd given
 
+-- the reply to an Unlist has a place
+pub unlist_placed : (n moment pid start : ℕ) (list : List Item) (i : Item) (reply : Reply) → Gives n (Unlist moment pid start) list i reply → IsSome (place_in reply)
+unlist_placed n moment pid start list i (At place) given = refl
+unlist_placed n moment pid start list i (Batched b) given = absurd given
+
 -- an event was entered
 pub submitted : (limits : Limits) (v w : Known Item) (moment salt place : ℕ) (event : Event) (reply : Reply) → place_in reply ≡ Some place → Answered caller_of IsJournal IsReady (GivesWithin limits) v (Step moment salt event) reply w → Submitted v (event_given v.number moment salt event) place w
 submitted limits v w moment salt place event (At at) is answered = record { entered = record { item = answered.entry; learned = answered.learned; is_next = answered.given.gives.0 }; place_is = (let same : at ≡ place = cc in sym same) ∙ answered.given.gives.1 }
@@ -45,6 +51,16 @@ submitted limits v w moment salt place event (Batched b) is answered = absurd an
 pub submitted_load : (limits : Limits) (v w : Known Item) (moment place : ℕ) (loaded : Loaded) (reply : Reply) → place_in reply ≡ Some place → Answered caller_of IsJournal IsReady (GivesWithin limits) v (Load moment loaded) reply w → Submitted v (load_given v.number moment loaded) place w
 submitted_load limits v w moment place loaded (At at) is answered = record { entered = record { item = answered.entry; learned = answered.learned; is_next = answered.given.gives.0 }; place_is = (let same : at ≡ place = cc in sym same) ∙ answered.given.gives.1 }
 submitted_load limits v w moment place loaded (Batched b) is answered = absurd answered.given.gives
+
+-- a load without a process was entered
+pub was_unlisted : (limits : Limits) (v w : Known Item) (moment pid start place : ℕ) (reply : Reply) → place_in reply ≡ Some place → Answered caller_of IsJournal IsReady (GivesWithin limits) v (Unlist moment pid start) reply w → Unlisted v moment pid start place w
+was_unlisted limits v w moment pid start place (At at) is answered = record {
+  loaded = loaded_of (past_of answered.learned.grown.before);
+  submitted = record { entered = record { item = answered.entry; learned = answered.learned; is_next = answered.given.gives.0 }; place_is = (let same : at ≡ place = cc in sym same) ∙ answered.given.gives.1 };
+  loaded_is = refl;
+  listed = answered.given.gives.2;
+}
+was_unlisted limits v w moment pid start place (Batched b) is answered = absurd answered.given.gives
 
 -- the reply to a Collect has a batch
 pub collect_batched : (n of : ℕ) (list : List Item) (i : Item) (reply : Reply) → Gives n (Collect of) list i reply → IsSome (batch_in reply)

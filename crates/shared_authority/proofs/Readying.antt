@@ -17,7 +17,7 @@ use Rattle.authority_model.specs.Sent.{is_ready, collected, is_collect_of}
 use Rattle.authority_model.proofs.Cases.{both}
 use Rattle.authority_laws.specs.Batches.{in_order}
 use Rattle.shared_authority.specs.declared.operation.Op.{Op}
-use Rattle.shared_authority.specs.declared.operation.Op.TheVariants.{Step, Load, Collect}
+use Rattle.shared_authority.specs.declared.operation.Op.TheVariants.{Step, Load, Unlist, Collect}
 use Rattle.shared_authority.specs.Machines.{IsReady, awaited}
 use Rattle.shared_authority.specs.Journals.{past_of}
 
@@ -107,6 +107,7 @@ pub ready_or_woken : (Wakes : ℕ → Type 0) (list : List Item) (i : Item) (n :
     → ((c : ℕ) → 0 < count_to c i.entry.outputs → Wakes c) → (is_depart i.entry.event ≡ true → Wakes i.entry.caller) → IsReady n op list ⊎ Wakes (awaited op)
 ready_or_woken Wakes list i n (Step moment salt event) ready receivers departed = inl ready
 ready_or_woken Wakes list i n (Load moment loaded) ready receivers departed = inl ready
+ready_or_woken Wakes list i n (Unlist moment pid start) ready receivers departed = inl ready
 ready_or_woken Wakes list i n (Collect of) ready receivers gone =
     ⊎_elim
     (λ (before : is_ready (past_of list) n of ≡ true). inl before)

@@ -4,12 +4,14 @@ use Rattle.authority_core.specs.declared.authority.StepRefused.{StepRefused}
 use Rattle.authority_core.specs.declared.authority.StepRefused.TheVariants as step
 use Rattle.authority_core.specs.declared.authority.LoadStepRefused.{LoadStepRefused}
 use Rattle.authority_core.specs.declared.authority.LoadStepRefused.TheVariants as load
+use Rattle.authority_core.specs.declared.authority.UnlistRefused.{UnlistRefused}
+use Rattle.authority_core.specs.declared.authority.UnlistRefused.TheVariants as unlist
 use Rattle.authority_core.specs.declared.collecting.CollectStepRefused.{CollectStepRefused}
 use Rattle.authority_core.specs.declared.collecting.CollectStepRefused.TheVariants as collect
 use Rattle.shared_authority.specs.declared.operation.Op.{Op}
 use Rattle.shared_authority.specs.declared.operation.Op.TheVariants.{Step, Load}
 use Rattle.shared_authority.specs.declared.operation.Refusal.{Refusal}
-use Rattle.shared_authority.specs.declared.operation.Refusal.TheVariants.{JournalFull, NoMemory}
+use Rattle.shared_authority.specs.declared.operation.Refusal.TheVariants.{JournalFull, NoMemory, NotListed}
 
 -- why a step was refused
 abbrev pub refusal_of_step : StepRefused → Refusal
@@ -35,3 +37,9 @@ op_of_load moment (load.NoMemory loaded) = Load moment loaded
 abbrev pub refusal_of_collect : CollectStepRefused → Refusal
 refusal_of_collect (collect.JournalFull entries bytes) = JournalFull entries bytes
 refusal_of_collect collect.NoMemory = NoMemory
+
+-- why a process was not taken out of the last load
+abbrev pub refusal_of_unlist : UnlistRefused → Refusal
+refusal_of_unlist unlist.NotListed = NotListed
+refusal_of_unlist (unlist.JournalFull entries bytes) = JournalFull entries bytes
+refusal_of_unlist unlist.NoMemory = NoMemory

@@ -10,10 +10,12 @@ use Rattle.authority_model.specs.declared.journal.Limits.{Limits}
 use Rattle.authority_model.specs.declared.load.Loaded.{Loaded}
 use Rattle.authority_core.specs.declared.collecting.Batch.{Batch}
 use Rattle.authority_laws.specs.Batches.{IsBatch, collect_given, greatest_load, loads_in}
+use Rattle.authority_core.specs.Unlisting.{lists_process, unlisted}
 use Rattle.authority_model.specs.Entering.{is_full}
+use Rattle.authority_model.specs.Items.{loaded_of}
 use Rattle.authority_model.specs.Peers.{departed}
 use Rattle.authority_model.specs.Sent.{batch, sent_to}
-use Rattle.authority_model.specs.Given.{Given, next}
+use Rattle.authority_model.specs.Given.{Given, load_given, next}
 use Rattle.shared_authority.specs.declared.collecting.Collected.{Collected}
 use Rattle.shared_authority.specs.declared.collecting.Collected.TheVariants as collected
 use Rattle.shared_authority.specs.declared.collecting.CollectRefused.{CollectRefused}
@@ -27,6 +29,8 @@ use Rattle.shared_authority.specs.declared.refused.SubmitRefused.{SubmitRefused}
 use Rattle.shared_authority.specs.declared.refused.SubmitRefused.TheVariants as submit
 use Rattle.shared_authority.specs.declared.refused.SubmitLoadRefused.{SubmitLoadRefused}
 use Rattle.shared_authority.specs.declared.refused.SubmitLoadRefused.TheVariants as submit_load
+use Rattle.shared_authority.specs.declared.refused.SubmitUnlistRefused.{SubmitUnlistRefused}
+use Rattle.shared_authority.specs.declared.refused.SubmitUnlistRefused.TheVariants as submit_unlist
 
 -- Others' items came, and then the item of what was handed in.
 pub record Entered (v : Known Item) (g : Given) (w : Known Item) : Type 0 where
@@ -41,6 +45,14 @@ pub record Entered (v : Known Item) (g : Given) (w : Known Item) : Type 0 where
 pub record Submitted (v : Known Item) (g : Given) (place : ℕ) (w : Known Item) : Type 0 where
   pub entered : Entered v g w
   pub place_is : place ≡ length entered.learned.grown.before
+
+-- Others' items came, and then the last load before without a process that this one lists.
+pub record Unlisted (v : Known Item) (moment pid start place : ℕ) (w : Known Item) : Type 0 where
+  -- the last load before
+  pub loaded : Loaded
+  pub submitted : Submitted v (load_given v.number moment (unlisted loaded pid start)) place w
+  pub loaded_is : loaded ≡ loaded_of (past_of submitted.entered.learned.grown.before)
+  pub listed : lists_process loaded pid start ≡ true
 
 -- The last of some items came when the journal of those before it was not full.
 pub record HadRoom (limits : Limits) (list : List Item) : Type 0 where
@@ -77,6 +89,19 @@ abbrev pub SubmitLoadIsRefused : Limits → Known Item → Loaded → SubmitLoad
 SubmitLoadIsRefused limits v loaded (submit_load.Ended cause back) w = (back ≡ loaded) × IsEnded limits v cause w
 SubmitLoadIsRefused limits v loaded (submit_load.JournalFull entries bytes back) w = (back ≡ loaded) × IsFull limits v entries bytes w
 SubmitLoadIsRefused limits v loaded (submit_load.NoMemory back) w = (back ≡ loaded) × IsOutOfMemory v w
+
+-- Nothing was entered, since the last load doesn't list the process. The lock has not ended.
+pub record IsNotListed (v : Known Item) (pid start : ℕ) (w : Known Item) : Type 0 where
+  pub absent : lists_process (loaded_of (past_of w.history)) pid start ≡ false
+  pub learned : Learned caller_of IsJournal v w
+  pub goes_on : w.ended ≡ None
+
+-- A process was not taken out of the last load.
+abbrev pub SubmitUnlistIsRefused : Limits → Known Item → ℕ → ℕ → SubmitUnlistRefused → Known Item → Type 0
+SubmitUnlistIsRefused limits v pid start (submit_unlist.Ended cause) w = IsEnded limits v cause w
+SubmitUnlistIsRefused limits v pid start submit_unlist.NotListed w = IsNotListed v pid start w
+SubmitUnlistIsRefused limits v pid start (submit_unlist.JournalFull entries bytes) w = IsFull limits v entries bytes w × (lists_process (loaded_of (past_of w.history)) pid start ≡ true)
+SubmitUnlistIsRefused limits v pid start submit_unlist.NoMemory w = IsOutOfMemory v w × (lists_process (loaded_of (past_of w.history)) pid start ≡ true)
 
 -- Some outputs were collected: those that are left for the pass after the items before the Collect.
 pub record TookBatch (v : Known Item) (of : ℕ) (b : Batch) (w : Known Item) : Type 0 where
@@ -117,4 +142,4 @@ CollectsNow limits v of (Some (Err refused)) w = CollectIsRefused limits v refus
 abbrev pub CalledNow : Limits → Known Item → Op → Option (Result Reply (CallRefused Op Refusal)) → Known Item → Type 0
 CalledNow limits v op None w = w ≡ v
 CalledNow limits v op (Some (Ok reply)) w = Answered caller_of IsJournal IsReady (GivesWithin limits) v op reply w
-CalledNow limits v op (Some (Err refused)) w = Refused caller_of IsJournal (λ n given list refusal. Refuses limits list refusal) (Fits limits) v op refused w
+CalledNow limits v op (Some (Err refused)) w = Refused caller_of IsJournal (λ n op list refusal. Refuses limits op list refusal) (Fits limits) v op refused w

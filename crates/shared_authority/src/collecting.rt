@@ -89,6 +89,8 @@ pub(crate) fn collected_or_refused(
                     bytes,
                 }),
                 Refusal::NoMemory => Err(CollectRefused::NoMemory),
+                // Only an Unlist is refused so.
+                Refusal::NotListed => Err(CollectRefused::NoMemory),
             }
         }
     }

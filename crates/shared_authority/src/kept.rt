@@ -3,11 +3,11 @@ ghost use Rattle.std.specs.Prelude.{◌≡◌, ◌≤◌, [], length};
 ghost use Rattle.authority_model.specs.Entering.{AreAllowed};
 ghost use Rattle.authority_model.specs.declared.journal.TheConstants.{MAX_ENTRIES};
 ghost use Rattle.authority_laws.specs.Batches.{in_order};
-ghost use Rattle.shared_authority.specs.Handing.{op_of_step, refusal_of_step, op_of_load, refusal_of_load, refusal_of_collect};
+ghost use Rattle.shared_authority.specs.Handing.{op_of_step, refusal_of_step, op_of_load, refusal_of_load, refusal_of_collect, refusal_of_unlist};
 
 use crate::operation::{Op, Refusal, Reply};
 use crate::waking::{others_woken_by, woken_by};
-use authority_core::{Authority, CollectStepRefused, LoadStepRefused, StepRefused};
+use authority_core::{Authority, CollectStepRefused, LoadStepRefused, StepRefused, UnlistRefused};
 use authority_model::Item;
 use history_lock::{Machine, Woken};
 use std::marker::{Brand, PhantomData};
@@ -86,7 +86,7 @@ impl<L: LimitsName> Machine for Kept<L> {
 
     ghost gives = { GivesWithin L.limits };
 
-    ghost refuses = { λ n op list refusal. Refuses L.limits list refusal };
+    ghost refuses = { λ n op list refusal. Refuses L.limits op list refusal };
 
     ghost awaited = { awaited };
 
@@ -106,6 +106,15 @@ impl<L: LimitsName> Machine for Kept<L> {
                 Ok(place) => Ok(Reply::At(place)),
                 Err(refused) => Err(hand_back_load(moment, refused)),
             },
+            Op::Unlist { moment, pid, start } => {
+                match self.authority.unlist(caller, moment, pid, start) {
+                    Ok(place) => Ok(Reply::At(place)),
+                    Err(refused) => Err((
+                        unlist_refusal(refused),
+                        Op::Unlist { moment, pid, start },
+                    )),
+                }
+            }
             Op::Collect { of } => match self.authority.collect(caller, of) {
                 Ok(batch) => Ok(Reply::Batch(batch)),
                 Err(refused) => Err((refusal_of(refused), Op::Collect { of })),
@@ -121,6 +130,11 @@ impl<L: LimitsName> Machine for Kept<L> {
                 event,
             } => event.is_stepped() && *moment <= GREATEST_MOMENT,
             Op::Load { moment, loaded: _ } => *moment <= GREATEST_MOMENT,
+            Op::Unlist {
+                moment,
+                pid: _,
+                start: _,
+            } => *moment <= GREATEST_MOMENT,
             Op::Collect { of } => self.authority.ready(caller, *of),
         }
     }
@@ -128,7 +142,7 @@ impl<L: LimitsName> Machine for Kept<L> {
     fn awaits(op: &Op) -> u32 {
         match op {
             Op::Collect { of } => *of,
-            Op::Step { .. } | Op::Load { .. } => 0,
+            Op::Step { .. } | Op::Load { .. } | Op::Unlist { .. } => 0,
         }
     }
 
@@ -208,5 +222,16 @@ fn refusal_of(refused: CollectStepRefused) -> Refusal
             bytes,
         },
         CollectStepRefused::NoMemory => Refusal::NoMemory,
+    }
+}
+
+/// Why a process was not taken out of the last load.
+fn unlist_refusal(refused: UnlistRefused) -> Refusal
+    ensures { result ≡ refusal_of_unlist refused }
+{
+    match refused {
+        UnlistRefused::NotListed => Refusal::NotListed,
+        UnlistRefused::JournalFull { entries, bytes } => Refusal::JournalFull { entries, bytes },
+        UnlistRefused::NoMemory => Refusal::NoMemory,
     }
 }

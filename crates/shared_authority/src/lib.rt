@@ -13,5 +13,5 @@ mod waking;
 pub use collecting::{CollectRefused, Collected, CollectedNow};
 pub use kept::{Kept, LimitsName};
 pub use operation::{Op, Refusal, Reply};
-pub use refused::{SubmitLoadRefused, SubmitRefused};
+pub use refused::{SubmitLoadRefused, SubmitRefused, SubmitUnlistRefused};
 pub use shared::Shared;

@@ -19,6 +19,12 @@ pub enum Op {
         moment: u64,
         loaded: Loaded,
     },
+    /// The entry of the last load without a process.
+    Unlist {
+        moment: u64,
+        pid: u32,
+        start: u64,
+    },
     /// The outputs to a connection that were not collected yet.
     Collect {
         of: u32,
@@ -41,6 +47,11 @@ impl Op {
                 moment: _,
                 loaded: _,
             } => unreachable!(),
+            Op::Unlist {
+                moment: _,
+                pid: _,
+                start: _,
+            } => unreachable!(),
             Op::Collect { of: _ } => unreachable!(),
         }
     }
@@ -56,6 +67,11 @@ impl Op {
                 moment: _,
                 salt: _,
                 event: _,
+            } => unreachable!(),
+            Op::Unlist {
+                moment: _,
+                pid: _,
+                start: _,
             } => unreachable!(),
             Op::Collect { of: _ } => unreachable!(),
         }
@@ -101,4 +117,6 @@ pub enum Refusal {
     /// The journal has reached its limit of entries or of bytes. It has this many.
     JournalFull { entries: u64, bytes: u64 },
     NoMemory,
+    /// The last load does not list the process that was to be taken out of it.
+    NotListed,
 }

@@ -1,5 +1,5 @@
 // Why nothing was entered.
-ghost use Rattle.std.specs.Prelude.{ℕ, IsSome};
+ghost use Rattle.std.specs.Prelude.{◌≡◌, ℕ, IfNone, IfSome, IsSome, None};
 ghost use Rattle.history_lock.specs.Known.{Known};
 ghost use Rattle.history_lock.specs.Calls.{Refused};
 ghost use Rattle.authority_model.specs.declared.event.Event.{Event};
@@ -8,7 +8,8 @@ ghost use Rattle.authority_model.specs.declared.journal.Limits.{Limits};
 ghost use Rattle.authority_model.specs.declared.load.Loaded.{Loaded};
 ghost use Rattle.shared_authority.specs.Journals.{IsJournal, Fits, caller_of};
 ghost use Rattle.shared_authority.specs.Machines.{Refuses, event_in, handed_back};
-ghost use Rattle.shared_authority.specs.Passes.{SubmitIsRefused, SubmitLoadIsRefused};
+ghost use Rattle.shared_authority.specs.declared.refused.SubmitUnlistRefused.TheVariants as unlist_refused;
+ghost use Rattle.shared_authority.specs.Passes.{SubmitIsRefused, SubmitLoadIsRefused, SubmitUnlistIsRefused};
 
 use crate::operation::{Op, Refusal};
 use authority_model::{Event, Loaded};
@@ -58,7 +59,7 @@ impl SubmitRefused {
 pub(crate) fn submit_refused(refused: CallRefused<Op, Refusal>) -> SubmitRefused
     requires { IsSome (event_in (handed_back refused)) }
     ensures { (limits : Limits) (v w : Known Item) (moment salt : ℕ) (event : Event)
-        → Refused caller_of IsJournal (λ n op list refusal. Refuses limits list refusal) (Fits limits) v (Op.Step moment salt event) refused w
+        → Refused caller_of IsJournal (λ n op list refusal. Refuses limits op list refusal) (Fits limits) v (Op.Step moment salt event) refused w
         → SubmitIsRefused limits v event result w }
 {
     match refused {
@@ -75,6 +76,8 @@ pub(crate) fn submit_refused(refused: CallRefused<Op, Refusal>) -> SubmitRefused
                     event,
                 },
                 Refusal::NoMemory => SubmitRefused::NoMemory { event },
+                // Only an Unlist is refused so.
+                Refusal::NotListed => SubmitRefused::NoMemory { event },
             }
         }
     }
@@ -116,6 +119,65 @@ impl SubmitLoadRefused {
                 bytes: *bytes,
             },
             SubmitLoadRefused::NoMemory { loaded: _ } => EndCause::NoMemory,
+        }
+    }
+}
+
+/// Why no load without a process was entered.
+#[derive(Clone, Copy, Debug, PartialEq, Eq)]
+pub enum SubmitUnlistRefused {
+    /// The lock has ended, by this cause.
+    Ended { cause: EndCause },
+    /// The last load does not list the process.
+    NotListed,
+    /// The journal has reached its limit of entries or of bytes. It has this many.
+    JournalFull { entries: u64, bytes: u64 },
+    NoMemory,
+}
+
+impl SubmitUnlistRefused {
+    /// The cause by which a caller ends the lock that refused. It fits what the caller's pass knows
+    /// since. None exactly where the process was not listed, and then the lock goes on.
+    pub fn cause(&self) -> Option<EndCause>
+        ensures fits { IfSome result (λ cause. (limits : Limits) (v w : Known Item) (pid start : ℕ)
+            → SubmitUnlistIsRefused limits v pid start self.now w
+            → Fits limits cause w.history w.made) }
+        ensures passed_over { self.now ≡ unlist_refused.NotListed → result ≡ None }
+        ensures else_ends { IfNone result (self.now ≡ unlist_refused.NotListed) }
+    {
+        match self {
+            SubmitUnlistRefused::Ended { cause } => Some(*cause),
+            SubmitUnlistRefused::NotListed => None,
+            SubmitUnlistRefused::JournalFull { entries, bytes } => Some(EndCause::JournalFull {
+                entries: *entries,
+                bytes: *bytes,
+            }),
+            SubmitUnlistRefused::NoMemory => Some(EndCause::NoMemory),
+        }
+    }
+}
+
+/// Why the lock refused to take a process out of the last load.
+pub(crate) fn unlist_refused(refused: CallRefused<Op, Refusal>) -> SubmitUnlistRefused
+    ensures { (limits : Limits) (v w : Known Item) (moment pid start : ℕ)
+        → Refused caller_of IsJournal (λ n op list refusal. Refuses limits op list refusal) (Fits limits) v (Op.Unlist moment pid start) refused w
+        → SubmitUnlistIsRefused limits v pid start result w }
+{
+    match refused {
+        CallRefused::Ended { cause, op } => {
+            drop(op);
+            SubmitUnlistRefused::Ended { cause }
+        }
+        CallRefused::Machine { refusal, op } => {
+            drop(op);
+            match refusal {
+                Refusal::NotListed => SubmitUnlistRefused::NotListed,
+                Refusal::JournalFull { entries, bytes } => SubmitUnlistRefused::JournalFull {
+                    entries,
+                    bytes,
+                },
+                Refusal::NoMemory => SubmitUnlistRefused::NoMemory,
+            }
         }
     }
 }

@@ -9,7 +9,7 @@ ghost use Rattle.authority_model.specs.Entering.{AreAllowed};
 ghost use Rattle.authority_model.specs.Given.{IsStepped, event_given, load_given};
 ghost use Rattle.authority_laws.specs.Batches.{in_order};
 ghost use Rattle.shared_authority.specs.Journals.{IsJournal, Fits, caller_of};
-ghost use Rattle.shared_authority.specs.Passes.{Collects, CollectIsRefused, CollectsNow, HadRoom, Submitted, SubmitIsRefused, SubmitLoadIsRefused};
+ghost use Rattle.shared_authority.specs.Passes.{Collects, CollectIsRefused, CollectsNow, HadRoom, Submitted, SubmitIsRefused, SubmitLoadIsRefused, SubmitUnlistIsRefused, Unlisted};
 ghost use Rattle.history_lock.specs.declared.machine.TheConstants.{MOST_PASSES};
 
 use crate::collecting::{
@@ -17,7 +17,9 @@ use crate::collecting::{
 };
 use crate::kept::{Kept, LimitsName};
 use crate::operation::{Op, Refusal};
-use crate::refused::{SubmitLoadRefused, SubmitRefused, submit_refused};
+use crate::refused::{
+    SubmitLoadRefused, SubmitRefused, SubmitUnlistRefused, submit_refused, unlist_refused,
+};
 use authority_core::Authority;
 use authority_model::{Event, Limits, Loaded};
 use history_lock::{AdmitRefused, CallRefused, EndCause, HistoryLock, Opened, Pass, TableName};
@@ -190,8 +192,38 @@ impl<L: LimitsName, T: TableName> Shared<L, T> {
                         },
                     ),
                     Refusal::NoMemory => Err(SubmitLoadRefused::NoMemory { loaded }),
+                    // Only an Unlist is refused so.
+                    Refusal::NotListed => Err(SubmitLoadRefused::NoMemory { loaded }),
                 }
             }
+        }
+    }
+
+    /// Adds the entry of a load that is the last one without a process, and answers its place, counted
+    /// from 0. It is the last that the pass then knows.
+    ///
+    /// # Errors
+    /// 1 Ended where the lock has ended, with the kept cause; 2 NotListed exactly where the last load
+    /// does not list the process; 3 JournalFull and 4 NoMemory as for `submit`. All are said of the
+    /// journal that the pass then knows, and no entry is added.
+    pub fn submit_unlist<R: Wait>(
+        &self,
+        rt: &R,
+        pass: &mut Pass<Kept<L>, T>,
+        moment: u64,
+        pid: u32,
+        start: u64,
+    ) -> Result<u64, SubmitUnlistRefused>
+        requires moment { moment ≤ 2 ^ 62 }
+        ensures ok { IfOk result (λ place. Unlisted pass.old moment pid start place pass.new) }
+        ensures room { OnOk result (HadRoom L.limits pass.new.history) }
+        ensures err { IfErr result (λ refused. SubmitUnlistIsRefused L.limits pass.old pid start refused pass.new) }
+        ensures number { pass.new.number ≡ pass.old.number }
+        ensures grows { IsPrefix pass.old.history pass.new.history }
+    {
+        match self.lock.call(rt, pass, Op::Unlist { moment, pid, start }) {
+            Ok(reply) => Ok(reply.into_place()),
+            Err(refused) => Err(unlist_refused(refused)),
         }
     }
 

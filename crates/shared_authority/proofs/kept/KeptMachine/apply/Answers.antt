@@ -3,16 +3,17 @@ use Rattle.authority_model.specs.declared.journal.TheConstants.{MAX_ENTRIES}
 use Rattle.authority_model.specs.declared.journal.Item.{Item}
 use Rattle.authority_model.specs.declared.journal.Limits.{Limits}
 use Rattle.authority_model.specs.Entering.{is_full}
-use Rattle.authority_model.specs.Items.{items_of}
+use Rattle.authority_model.specs.Items.{items_of, loaded_of}
 use Rattle.authority_model.specs.Given.{next, event_given, load_given}
 use Rattle.authority_laws.specs.Batches.{in_order, collect_given}
 use Rattle.authority_core.specs.Journal.{Journal}
+use Rattle.authority_core.specs.Unlisting.{unlisted}
 use Rattle.shared_authority.specs.declared.operation.Op.{Op}
 use Rattle.shared_authority.specs.declared.operation.Refusal.{Refusal}
 use Rattle.shared_authority.specs.declared.operation.Reply.TheVariants.{At, Batch as Batched}
-use Rattle.shared_authority.specs.Machines.{Gives, Refuses}
+use Rattle.shared_authority.specs.Machines.{Gives, Refuses, RefusesAny, RefusesUnlist}
 use Rattle.shared_authority.proofs.Growing.{order_grows, order_length, order_journal, stays_within}
-use Rattle.shared_authority.proofs.Refusing.{step_back, step_refuses, load_back, load_refuses, collect_refuses}
+use Rattle.shared_authority.proofs.Refusing.{step_back, step_refuses, load_back, load_refuses, collect_refuses, unlist_refuses}
 use Rattle.shared_authority.proofs.kept.KeptMachine.apply.Goals as goal
 
 pub invariant_of-self-clause-within : goal.invariant_of-self-clause-within
@@ -63,7 +64,7 @@ returns-in-Err-clause-err g c =
     let limits = g.L.LimitsName.limits in (
       ap (λ (j : Journal). in_order j.history) e.err,
       ap (λ (p : Refusal × Op). p.1) back ∙ step_back kept.authority c.in-Step.moment c.in-Step.salt c.in-Step.event c.in-Err.refused e.refused ∙ sym c.in-Step.is,
-      subst (λ (r : Refusal). Refuses limits (in_order kept.authority.history) r) (sym (ap (λ (p : Refusal × Op). p.0) back)) (step_refuses kept.authority limits c.in-Step.event c.in-Err.refused e.refused kept.named kept.within),
+      subst (λ (op : Op). Refuses limits op (in_order kept.authority.history) c.hand_back_step.result.0) (sym c.in-Step.is) (subst (λ (r : Refusal). RefusesAny limits (in_order kept.authority.history) r) (sym (ap (λ (p : Refusal × Op). p.0) back)) (step_refuses kept.authority limits c.in-Step.event c.in-Err.refused e.refused kept.named kept.within)),
     )
 
 pub returns-in-Err-load-clause-err : goal.returns-in-Err-load-clause-err
@@ -74,7 +75,7 @@ returns-in-Err-load-clause-err g c =
     let limits = g.L.LimitsName.limits in (
       ap (λ (j : Journal). in_order j.history) e.err,
       ap (λ (p : Refusal × Op). p.1) back ∙ load_back kept.authority c.in-Load.moment c.in-Load.loaded c.in-Err-load.refused e.refused ∙ sym c.in-Load.is,
-      subst (λ (r : Refusal). Refuses limits (in_order kept.authority.history) r) (sym (ap (λ (p : Refusal × Op). p.0) back)) (load_refuses kept.authority limits c.in-Load.loaded c.in-Err-load.refused e.refused kept.named kept.within),
+      subst (λ (op : Op). Refuses limits op (in_order kept.authority.history) c.hand_back_load.result.0) (sym c.in-Load.is) (subst (λ (r : Refusal). RefusesAny limits (in_order kept.authority.history) r) (sym (ap (λ (p : Refusal × Op). p.0) back)) (load_refuses kept.authority limits c.in-Load.loaded c.in-Err-load.refused e.refused kept.named kept.within)),
     )
 
 pub invariant_of-self-in-Collect-clause-within : goal.invariant_of-self-in-Collect-clause-within
@@ -104,5 +105,41 @@ returns-in-Err-collect-clause-err g c =
     let limits = g.L.LimitsName.limits in (
       ap (λ (j : Journal). in_order j.history) e.err,
       sym c.in-Collect.is,
-      subst (λ (r : Refusal). Refuses limits (in_order kept.authority.history) r) (sym c.refusal_of.ensures) (collect_refuses kept.authority limits c.in-Err-collect.refused e.refused kept.named kept.within),
+      subst (λ (op : Op). Refuses limits op (in_order kept.authority.history) c.refusal_of.result) (sym c.in-Collect.is) (subst (λ (r : Refusal). RefusesAny limits (in_order kept.authority.history) r) (sym c.refusal_of.ensures) (collect_refuses kept.authority limits c.in-Err-collect.refused e.refused kept.named kept.within)),
+    )
+
+pub invariant_of-self-in-Unlist-clause-within : goal.invariant_of-self-in-Unlist-clause-within
+invariant_of-self-in-Unlist-clause-within g c =
+    let kept = c.args.self.now in
+    let e = c.unlist.ensures in
+    let given = load_given c.args.caller c.in-Unlist.moment (unlisted (loaded_of (items_of kept.authority.history)) c.in-Unlist.pid c.in-Unlist.start) in
+    stays_within c.unlist.result kept.authority c.unlist.new.self given e.grows e.err e.within g.L.LimitsName.limits kept.named kept.within
+
+pub returns-in-Ok-unlist-clause-ok : goal.returns-in-Ok-unlist-clause-ok
+returns-in-Ok-unlist-clause-ok g c =
+    let h = c.args.self.now.authority.history in
+    let e = c.in-Ok-unlist.ensures in
+    let given = load_given c.args.caller c.in-Unlist.moment (unlisted (loaded_of (items_of h)) c.in-Unlist.pid c.in-Unlist.start) in
+    let i : Item = next (items_of h) given in
+    let few = subst (λ (l : Limits). l.entries ≤ MAX_ENTRIES) (sym c.args.self.now.named) c.args.self.now.few in (
+      i,
+      order_grows h c.unlist.new.self.history given e.grows,
+      refl,
+      record {
+        gives = subst (λ (op : Op). Gives c.args.caller op (in_order h) i (At c.in-Ok-unlist.place)) (sym c.in-Unlist.is) (refl, e.place ∙ sym (order_length h), e.listed);
+        room = subst (λ (l : Limits). is_full l (items_of h) ≡ false) c.args.self.now.named e.within;
+      },
+      order_journal h c.unlist.new.self.history given c.args.self.now.authority.limits e.grows e.legal e.within few,
+    )
+
+pub returns-in-Err-unlist-clause-err : goal.returns-in-Err-unlist-clause-err
+returns-in-Err-unlist-clause-err g c =
+    let kept = c.args.self.now in
+    let e = c.in-Err-unlist.ensures in
+    let limits = g.L.LimitsName.limits in (
+      ap (λ (j : Journal). in_order j.history) e.err,
+      sym c.in-Unlist.is,
+      subst (λ (op : Op). Refuses limits op (in_order kept.authority.history) c.unlist_refusal.result) (sym c.in-Unlist.is)
+          (subst (λ (r : Refusal). RefusesUnlist limits c.in-Unlist.pid c.in-Unlist.start (in_order kept.authority.history) r) (sym c.unlist_refusal.ensures)
+          (unlist_refuses kept.authority limits c.in-Unlist.pid c.in-Unlist.start c.in-Err-unlist.refused e.refused kept.named kept.within)),
     )
