@@ -1,0 +1,5 @@
+pub mod Shifted
+pub mod Standing
+pub mod Forms
+pub mod Quick
+pub mod Learning
