@@ -9,11 +9,11 @@ ghost use Rattle.pk_types.specs.declared.decimals.TheConstants.{MAX_NUMBER};
 
 use crate::ends::WriteStop;
 use authority_core::Batch;
-use authority_messages::message_of;
 use authority_model::{History, Output};
 use pk_outside::{Sink, write_all};
 use pk_types::List;
 use std::alloc::Global;
+use usual_replies::put_message_of;
 
 /// Messages are written together, once this many bytes of them are ready: 64 KiB.
 const WRITE_BYTES: usize = 65536;
@@ -48,8 +48,7 @@ fn add_message<O: Sink>(
     ensures later { O.faults sink.old ≤ O.faults sink.new }
     ensures stopped { HasStopped (O.faults sink.old) (O.faults sink.new) result }
 {
-    let message = message_of(alloc, output, history, serial)?;
-    ready.extend_from_slice(message.as_slice())?;
+    put_message_of(alloc, output, history, serial, ready)?;
     if ready.len() < WRITE_BYTES {
         return Ok(());
     }

@@ -6,27 +6,23 @@ use Rattle.connection_writer.proofs.Texts.{text_is}
 use Rattle.connection_writer.proofs.Written.{front_none, upto_flushed, upto_ready, upto_refused}
 use Rattle.connection_writer.proofs.batches.add_message.Goals as goal
 
-pub returns-in_err-message-clause-writes : goal.returns-in_err-message-clause-writes
-returns-in_err-message-clause-writes g c = upto_refused _ _ _ _ c.from_residual.result stop.NoMemory c.from_residual.ensures.1 (front_none _ _)
-
-pub returns-in_err-extend_from_slice-clause-writes :
-    goal.returns-in_err-extend_from_slice-clause-writes
-returns-in_err-extend_from_slice-clause-writes g c = upto_refused _ _ _ _ c.from_residual-in_err-extend_from_slice.result stop.NoMemory c.from_residual-in_err-extend_from_slice.ensures.1 (front_none _ _)
+pub returns-in_err-put_message_of-clause-writes : goal.returns-in_err-put_message_of-clause-writes
+returns-in_err-put_message_of-clause-writes g c = upto_refused _ _ _ _ c.from_residual.result stop.NoMemory c.from_residual.ensures.1 (front_none _ _)
 
 pub returns-then-len-lt-WRITE_BYTES-clause-writes :
     goal.returns-then-len-lt-WRITE_BYTES-clause-writes
 returns-then-len-lt-WRITE_BYTES-clause-writes g c =
-    let text = c.as_slice.ensures.items ∙ c.in_ok-message.ensures.exact ∙ sym (text_is c.args.history.now.loads c.args.serial c.args.output.now) in
-    upto_ready _ _ _ (c.in_ok-extend_from_slice.ensures.items ∙ ap (λ (l : List ℕ). c.args.ready.now.items ++ l) text)
+    let put = c.in_ok-put_message_of.ensures.put ∙ ap (λ (l : List ℕ). c.args.ready.now.items ++ l) (sym (text_is c.args.history.now.loads c.args.serial c.args.output.now)) in
+    upto_ready _ _ _ put
 
 pub returns-in_err-write_ready-clause-writes : goal.returns-in_err-write_ready-clause-writes
 returns-in_err-write_ready-clause-writes g c =
-    let text = c.as_slice.ensures.items ∙ c.in_ok-message.ensures.exact ∙ sym (text_is c.args.history.now.loads c.args.serial c.args.output.now) in
+    let put = c.in_ok-put_message_of.ensures.put ∙ ap (λ (l : List ℕ). c.args.ready.now.items ++ l) (sym (text_is c.args.history.now.loads c.args.serial c.args.output.now)) in
     upto_refused _ _ _ _ c.from_residual-in_err-write_ready.result _ c.from_residual-in_err-write_ready.ensures.1
-    (subst (GotFront (g.O.Sink.held c.args.sink.now) (g.O.Sink.held c.write_ready.new.sink)) (c.in_ok-extend_from_slice.ensures.items ∙ ap (λ (l : List ℕ). c.args.ready.now.items ++ l) text) c.in_err-write_ready.ensures.writes)
+    (subst (GotFront (g.O.Sink.held c.args.sink.now) (g.O.Sink.held c.write_ready.new.sink)) put c.in_err-write_ready.ensures.writes)
 
 pub returns-clause-writes : goal.returns-clause-writes
 returns-clause-writes g c =
-    let text = c.as_slice.ensures.items ∙ c.in_ok-message.ensures.exact ∙ sym (text_is c.args.history.now.loads c.args.serial c.args.output.now) in
+    let put = c.in_ok-put_message_of.ensures.put ∙ ap (λ (l : List ℕ). c.args.ready.now.items ++ l) (sym (text_is c.args.history.now.loads c.args.serial c.args.output.now)) in
     upto_flushed _ _ _ _ c.in_ok-write_ready.ensures.empty
-    (subst (Got (g.O.Sink.held c.args.sink.now) (g.O.Sink.held c.write_ready.new.sink)) (c.in_ok-extend_from_slice.ensures.items ∙ ap (λ (l : List ℕ). c.args.ready.now.items ++ l) text) c.in_ok-write_ready.ensures.writes)
+    (subst (Got (g.O.Sink.held c.args.sink.now) (g.O.Sink.held c.write_ready.new.sink)) put c.in_ok-write_ready.ensures.writes)
