@@ -1,0 +1,3 @@
+pub mod Unlisting
+pub mod Watching
+mod Lookouts

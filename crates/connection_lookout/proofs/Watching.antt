@@ -1,0 +1,178 @@
+-- What each look makes of what a sighter has done.
+use Rattle.std.proofs.Common.{◌≡◌, ℕ, Bool, true, false, cond, List, [], ◌∷◌, ◌++◌, Option, Some, None, refl, ap, sym, ◌∙◌, subst, append-nil, append_assoc, map, inl, inr}
+use Rattle.std.specs.Prelude.{All, filter, not}
+use Rattle.std.specs.List.{cons_option}
+use Rattle.std.proofs.lemmas.List.{map-append}
+use Rattle.std.proofs.lemmas.List.Elements.{All-append, All-cons, All-nil, filter_map-append}
+use mathlib.Core.List.{IsPrefix}
+use Rattle.authority_model.specs.declared.event.Event.{Event}
+use Rattle.authority_model.specs.declared.journal.Item.{Item}
+use Rattle.connection_laws.proofs.Growing.{knows_entered, knows_learned}
+use Rattle.connection_lookout.proofs.Unlisting.{unlist_entered, unlist_learned, unlist_none}
+use Rattle.connection_laws.specs.Knowing.{KnowsMore}
+use Rattle.connection_lookout.specs.Unlistings.{DidUnlist}
+use Rattle.connection_lookout.specs.Watching.{AllLooked, AllTaken, HasMet, IsFresh, Looks, LooksAt, Meets, Takes, TookOut, TookTurn, Turn, Watch, Watched, Watching, has_ended, has_seen, look_of, names, process_of, processes}
+use Rattle.history_lock.proofs.Prefixes.{prefix_self, prefix_trans}
+use Rattle.history_lock.specs.Known.{Known}
+use Rattle.pk_outside.specs.declared.sights.Sighted.{Sighted}
+use Rattle.pk_outside.specs.Sightings.{GivesSighting, Look, Looked}
+use Rattle.shared_authority.specs.Journals.{past_of}
+use Rattle.sight_events.specs.Named.{named}
+
+-- the processes of one turn more
+processes_more : (test : Turn → Bool) (turns : List Turn) (t : Turn) (b : Bool) → test t ≡ b → processes test (turns ++ t ∷ []) ≡ processes test turns ++ cond b (process_of t ∷ []) []
+processes_more test [] t b is = ap (λ (x : Bool). map process_of (cond x (t ∷ []) [])) is ∙ one b
+  where
+    one : (x : Bool) → map process_of (cond x (t ∷ []) []) ≡ cond x (process_of t ∷ []) []
+    one true = refl
+    one false = refl
+processes_more test (u ∷ turns) t b is = one (test u) (processes_more test turns t b is)
+  where
+    one : (x : Bool) → processes test (turns ++ t ∷ []) ≡ processes test turns ++ cond b (process_of t ∷ []) []
+        → map process_of (cond x (u ∷ filter test (turns ++ t ∷ [])) (filter test (turns ++ t ∷ []))) ≡ map process_of (cond x (u ∷ filter test turns) (filter test turns)) ++ cond b (process_of t ∷ []) []
+    one true rest = ap (λ (l : List (ℕ × ℕ)). process_of u ∷ l) rest
+    one false rest = rest
+
+-- what one event more names
+names_more : (events : List Event) (event : Event) (p : ℕ × ℕ) → named event ≡ Some p → names (events ++ event ∷ []) ≡ names events ++ p ∷ []
+names_more events event p is = filter_map-append named events (event ∷ []) ∙ ap (λ (x : Option (ℕ × ℕ)). names events ++ cons_option x []) is
+
+no_names_more : (events : List Event) (event : Event) → named event ≡ None → names (events ++ event ∷ []) ≡ names events
+no_names_more events event none = filter_map-append named events (event ∷ []) ∙ ap (λ (x : Option (ℕ × ℕ)). names events ++ cons_option x []) none ∙ append-nil (names events)
+
+-- one sighting more
+takes_more : (a b c : List Sighted) (seen : List Sighted) (s : Sighted) → Takes a b seen → GivesSighting (Some b) (Some c) s → Takes a c (seen ++ s ∷ [])
+takes_more [] b c [] s t g = subst (λ (l : List Sighted). GivesSighting (Some l) (Some c) s) t g
+takes_more (x ∷ a) b c [] s t g = subst (λ (l : List Sighted). GivesSighting (Some l) (Some c) s) t g
+takes_more [] b c (u ∷ seen) s t g = (t.0, takes_more [] b c seen s t.1 g)
+takes_more (x ∷ a) b c (u ∷ seen) s t g = (t.0, takes_more a b c seen s t.1 g)
+
+taken_more : (a b c : Option (List Sighted)) (seen : List Sighted) (s : Sighted) → AllTaken a b seen → GivesSighting b c s → AllTaken a c (seen ++ s ∷ [])
+taken_more None None None seen s t g = tt
+taken_more None None (Some c) seen s t g = absurd g
+taken_more None (Some b) c seen s t g = absurd t
+taken_more (Some a) None c seen s t g = absurd t
+taken_more (Some a) (Some b) None seen s t g = absurd g
+taken_more (Some a) (Some b) (Some c) seen s t g = takes_more a b c seen s t g
+
+taken_none : (a : Option (List Sighted)) → AllTaken a a []
+taken_none None = tt
+taken_none (Some a) = refl
+
+-- one look more
+looked_more : (a b c : Option (List Look)) (looks : List Look) (pid : ℕ) (s : Sighted) → AllLooked a b looks → Looked b c pid s → AllLooked a c (looks ++ record { pid = pid; sighted = s } ∷ [])
+looked_more None None None looks pid s t g = tt
+looked_more None None (Some c) looks pid s t g = absurd g
+looked_more None (Some b) c looks pid s t g = absurd t
+looked_more (Some a) None c looks pid s t g = absurd t
+looked_more (Some a) (Some b) None looks pid s t g = absurd g
+looked_more (Some a) (Some b) (Some c) looks pid s t g = g ∙ ap (λ (l : List Look). l ++ record { pid = pid; sighted = s } ∷ []) t ∙ append_assoc a looks (record { pid = pid; sighted = s } ∷ [])
+
+looked_none : (a : Option (List Look)) → AllLooked a a []
+looked_none None = tt
+looked_none (Some a) = sym (append-nil a)
+
+-- what was taken out, or not
+out_number : (b : Bool) (pid start : ℕ) (v w : Known Item) → TookOut b pid start v w → w.number ≡ v.number
+out_number true pid start v w out = (knows_entered v _ w out.1.submitted.entered).number
+out_number false pid start v w (inl same) = ap (λ (k : Known Item). k.number) same
+out_number false pid start v w (inr l) = l.number
+
+out_begins : (b : Bool) (pid start : ℕ) (v w : Known Item) → TookOut b pid start v w → IsPrefix v.history w.history
+out_begins true pid start v w out = (knows_entered v _ w out.1.submitted.entered).begins
+out_begins false pid start v w (inl same) = subst (λ (k : Known Item). IsPrefix v.history k.history) (sym same) (prefix_self v.history)
+out_begins false pid start v w (inr l) = (knows_learned v w l).begins
+
+out_did : (n : ℕ) (b : Bool) (pid start : ℕ) (v w : Known Item) (ps : List (ℕ × ℕ)) → v.number ≡ n → TookOut b pid start v w → DidUnlist n (past_of v.history) ps → DidUnlist n (past_of w.history) (ps ++ cond b ((pid, start) ∷ []) [])
+out_did n true pid start v w ps is out did = unlist_entered n v pid start out.0 w ps is out.1 did
+out_did n false pid start v w ps is (inl same) did = subst (λ (k : Known Item). DidUnlist n (past_of k.history) (ps ++ [])) (sym same) (subst (λ (l : List (ℕ × ℕ)). DidUnlist n (past_of v.history) l) (sym (append-nil ps)) did)
+out_did n false pid start v w ps is (inr l) did = unlist_learned n v w (ps ++ []) is l (subst (λ (l : List (ℕ × ℕ)). DidUnlist n (past_of v.history) l) (sym (append-nil ps)) did)
+
+-- one turn more; where its look failed no event more was handed in
+turn_more : (events more : List Event) (u v w : Watch) (p : ℕ × ℕ) (failed : Bool) → Watching events u v → TookTurn p v w failed → names more ≡ names events ++ cond (not failed) (p ∷ []) [] → Watching more u w
+turn_more events more u v w p failed x t is = record {
+  number = out_number t.turn.unlisted t.turn.pid t.turn.start v.pass w.pass t.out ∙ x.number;
+  begins = prefix_trans u.pass.history v.pass.history w.pass.history x.begins (out_begins t.turn.unlisted t.turn.pid t.turn.start v.pass w.pass t.out);
+  turns = x.turns ++ t.turn ∷ [];
+  looked = processes_more (λ (t : Turn). has_seen t.sighted) x.turns t.turn (not failed) t.failed_is
+      ∙ ap (λ (q : ℕ × ℕ). processes (λ (t : Turn). has_seen t.sighted) x.turns ++ cond (not failed) (q ∷ []) []) t.process
+      ∙ ap (λ (l : List (ℕ × ℕ)). l ++ cond (not failed) (p ∷ []) []) x.looked
+      ∙ sym is;
+  left = subst (AllTaken u.left w.left) (sym (map-append (λ (t : Turn). t.sighted) x.turns (t.turn ∷ []))) (taken_more u.left v.left w.left (map (λ (t : Turn). t.sighted) x.turns) t.turn.sighted x.left t.left);
+  gave = subst (AllLooked u.gave w.gave) (sym (map-append look_of x.turns (t.turn ∷ []))) (looked_more u.gave v.gave w.gave (map look_of x.turns) t.turn.pid t.turn.sighted x.gave t.gave);
+  did = subst (λ (l : List (ℕ × ℕ)). DidUnlist u.pass.number (past_of w.pass.history) l) (sym (processes_more (λ (t : Turn). t.unlisted) x.turns t.turn t.turn.unlisted refl))
+      (out_did u.pass.number t.turn.unlisted t.turn.pid t.turn.start v.pass w.pass (processes (λ (t : Turn). t.unlisted) x.turns) x.number t.out x.did);
+  ended = All-append (λ (t : Turn). t.unlisted ≡ true → has_ended t.start t.sighted ≡ true) x.turns (t.turn ∷ []) x.ended
+      (All-cons (λ (t : Turn). t.unlisted ≡ true → has_ended t.start t.sighted ≡ true) t.turn [] t.ended (All-nil (λ (t : Turn). t.unlisted ≡ true → has_ended t.start t.sighted ≡ true)));
+}
+
+-- no turn more
+no_turn_more : (events more : List Event) (u v w : Watch) → Watching events u v → w ≡ v → names more ≡ names events → Watching more u w
+no_turn_more events more u v w x same is = subst (Watching more u) (sym same) (record {
+  number = x.number;
+  begins = x.begins;
+  turns = x.turns;
+  looked = x.looked ∙ sym is;
+  left = x.left;
+  gave = x.gave;
+  did = x.did;
+  ended = x.ended;
+})
+
+-- it looked before one event more
+pub watched_more : (events : List Event) (event : Event) (a b c : Option Watch) → Watched events a b → Looks event b c false → Watched (events ++ event ∷ []) a c
+watched_more events event None None None x l = tt
+watched_more events event None None (Some c) x l = absurd l
+watched_more events event None (Some b) c x l = absurd x
+watched_more events event (Some a) None c x l = absurd x
+watched_more events event (Some a) (Some b) None x l = absurd l
+watched_more events event (Some a) (Some b) (Some c) x l = go (named event) refl l
+  where
+    go : (n : Option (ℕ × ℕ)) → named event ≡ n → LooksAt n b c false → Watching (events ++ event ∷ []) a c
+    go None none at = no_turn_more events (events ++ event ∷ []) a b c x at.0 (no_names_more events event none)
+    go (Some p) is at = turn_more events (events ++ event ∷ []) a b c p false x at (names_more events event p is)
+
+-- the look before an event failed
+pub watched_failed : (events : List Event) (event : Event) (a b c : Option Watch) → Watched events a b → Looks event b c true → Watched events a c
+watched_failed events event None None None x l = tt
+watched_failed events event None None (Some c) x l = absurd l
+watched_failed events event None (Some b) c x l = absurd x
+watched_failed events event (Some a) None c x l = absurd x
+watched_failed events event (Some a) (Some b) None x l = absurd l
+watched_failed events event (Some a) (Some b) (Some c) x l = go (named event) l
+  where
+    go : (n : Option (ℕ × ℕ)) → LooksAt n b c true → Watching events a c
+    go None at = absurd (cc (at.1))
+    go (Some p) at = turn_more events events a b c p true x at (sym (append-nil (names events)))
+
+-- a sighter that has not looked yet
+pub watched_self : (a : Option Watch) → IsFresh a → Watched [] a a
+watched_self None fresh = tt
+watched_self (Some v) fresh = record {
+  number = refl;
+  begins = prefix_self v.pass.history;
+  turns = [];
+  looked = refl;
+  left = taken_none v.left;
+  gave = looked_none v.gave;
+  did = unlist_none v.pass.number v.pass.history fresh;
+  ended = All-nil (λ (t : Turn). t.unlisted ≡ true → has_ended t.start t.sighted ≡ true);
+}
+
+-- a sighter that met the connection's pass
+pub watched_met : (events : List Event) (p : Known Item) (a b c : Option Watch) → Watched events a b → HasMet p b c → Watched events a c
+watched_met events p None None None x m = tt
+watched_met events p None None (Some c) x m = absurd m
+watched_met events p None (Some b) c x m = absurd x
+watched_met events p (Some a) None c x m = absurd x
+watched_met events p (Some a) (Some b) None x m = absurd m
+watched_met events p (Some a) (Some b) (Some c) x m = record {
+  number = m.learned.number ∙ x.number;
+  begins = prefix_trans a.pass.history b.pass.history c.pass.history x.begins (knows_learned b.pass c.pass m.learned).begins;
+  turns = x.turns;
+  looked = x.looked;
+  left = subst (λ (l : Option (List Sighted)). AllTaken a.left l (map (λ (t : Turn). t.sighted) x.turns)) (sym m.left) x.left;
+  gave = subst (λ (l : Option (List Look)). AllLooked a.gave l (map look_of x.turns)) (sym m.gave) x.gave;
+  did = unlist_learned a.pass.number b.pass c.pass (processes (λ (t : Turn). t.unlisted) x.turns) x.number m.learned x.did;
+  ended = x.ended;
+}

@@ -1,0 +1,2 @@
+pub mod Unlistings
+pub mod Watching

@@ -1,0 +1,9 @@
+//! Whether a connection looks at the processes that its events name, and what it does where one of
+//! them has ended. A connection that looks has a pass of its own for it: the sighter.
+#![tactic(auto)]
+
+mod lookout;
+mod unlistings;
+
+pub use lookout::{Lookout, NoLookout, ProcessLookout, SightFailed};
+pub use unlistings::unlistings_grow;
