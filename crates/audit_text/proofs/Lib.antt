@@ -4,3 +4,6 @@ pub mod Parts
 pub mod Histories
 pub mod Loops
 pub mod Readings
+pub mod Taking
+pub mod Ending
+pub mod Sections

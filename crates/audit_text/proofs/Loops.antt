@@ -1,10 +1,7 @@
 -- Lines written and read one after the other, as loops do.
 use Rattle.std.proofs.Common.{◌≡◌, ℕ, suc, ◌-◌, ◌+◌, ◌≤◌, ◌<◌, List, [], ◌∷◌, ◌++◌, length, drop, get_or, Ok, Err, refl, sym, ap, ◌∙◌, append_assoc, append-nil, arith, add-one, drop-cons}
 use Rattle.std.proofs.lemmas.List.{drop_all}
-use Rattle.audit_text.specs.declared.fault.Stop.{Stop}
-use Rattle.audit_text.specs.declared.fault.Stop.TheVariants as stops
 use Rattle.audit_text.specs.Lines.{Place, LineCodec, Reading, ◌then◌, take_items, spell_items}
-use Rattle.audit_text.specs.Reads.{Fails}
 
 abbrev pub with_front : {A : Type 0} → List A → Reading (List A) → Reading (List A)
 with_front front read = read then λ x. Ok (front ++ x.0, x.1)
@@ -17,7 +14,7 @@ regroup_front : (A : Type 0) (front : List A) (v : A) (read : Reading (List A)) 
 regroup_front A front v (Ok x) = ap (λ (vs : List A). Ok (vs, x.1)) (sym (append_assoc front (v ∷ []) x.0))
 regroup_front A front v (Err k) = refl
 
-one_more : (A : Type 0) (c : LineCodec A) (count i : ℕ) (at : Place) → i < count
+pub one_more : (A : Type 0) (c : LineCodec A) (count i : ℕ) (at : Place) → i < count
     → take_items c (count - i) at ≡ (c.take at then λ x. take_items c (count - (i + 1)) x.1 then λ y. Ok (x.0 ∷ y.0, y.1))
 one_more A c count i at lt = let k : count - i ≡ suc (count - (i + 1)) = omega arith in ap (λ (n : ℕ). take_items c n at) k
 
@@ -26,12 +23,6 @@ pub goes_on : (A : Type 0) (c : LineCodec A) (front : List A) (count i : ℕ) (a
 goes_on A c front count i at v after total lt e so_far =
     sym (ap (with_front front) (one_more A c count i at lt ∙ ap (λ (r : Reading A). r then λ x. take_items c (count - (i + 1)) x.1 then λ y. Ok (x.0 ∷ y.0, y.1)) e)
     ∙ regroup_front A front v (take_items c (count - (i + 1)) after)) ∙ so_far
-
-pub ends : (A : Type 0) (c : LineCodec A) (e : Stop) (front : List A) (count i : ℕ) (at : Place) (total : Reading (List A)) → i < count → Fails e (c.take at)
-    → with_front front (take_items c (count - i) at) ≡ total → Fails e total
-ends A c stops.Memory front count i at total lt h so_far = tt
-ends A c (stops.Bad n k) front count i at total lt h so_far =
-    sym so_far ∙ ap (with_front front) (one_more A c count i at lt ∙ ap (λ (r : Reading A). r then λ x. take_items c (count - (i + 1)) x.1 then λ y. Ok (x.0 ∷ y.0, y.1)) h)
 
 pub is_done : (A : Type 0) (c : LineCodec A) (front : List A) (count i : ℕ) (at : Place) (total : Reading (List A)) → count ≤ i
     → with_front front (take_items c (count - i) at) ≡ total → total ≡ Ok (front, at)

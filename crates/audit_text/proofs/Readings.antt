@@ -3,6 +3,7 @@ use Rattle.std.proofs.Common.{◌≡◌, ℕ, ◌+◌, ◌<◌, ◌≤◌, nat_l
 use Rattle.std.specs.Prelude.{IfErr}
 use Rattle.std.proofs.lemmas.Bool.Decides.{nat_tests}
 use Rattle.std.proofs.lemmas.List.{append-nil}
+use Rattle.pk_outside.specs.Causes.{Rose}
 use Rattle.authority_model.specs.declared.journal.History.{History}
 use Rattle.audit_words.proofs.Tests.{chosen}
 use Rattle.audit_text.specs.declared.fault.LineKind.{LineKind}
@@ -15,6 +16,7 @@ use Rattle.audit_text.specs.Lines.{Place, Reading, ◌then◌, lines_in, take_pa
 use Rattle.audit_text.specs.Audit.{first_line, history_headed, history, audit_text, IsSpelled, of_lines, unless_many, behind_head, reading}
 use Rattle.audit_text.specs.Outcomes.{IsAuditText, IsTooMany, NoTextHas, IsBadLine, IsReading, IsReadAs, IsRefusedMany, OnJudged}
 use Rattle.audit_text.specs.Reads.{GivesHistory}
+use Rattle.audit_text.specs.Takes.{Stand, HasReadCause}
 use Rattle.audit_text.proofs.Basics.{ok_is, not_err, Refuses, bad_as}
 use Rattle.audit_text.proofs.Histories.{first_line_lawful, history_lawful}
 
@@ -35,15 +37,6 @@ not_history h r e = cc
 
 refusal_is : (q r : AuditReadRefused) → a_refusal q ≡ Err r → q ≡ r
 refusal_is q r e = cc
-
-bad_never : (n : ℕ) (k : LineKind) → refused.BadLine n k ≡ refused.ReadFault → ⊥
-bad_never n k e = cc
-
-many_never : (n : ℕ) → refused.TooMany n ≡ refused.ReadFault → ⊥
-many_never n e = cc
-
-memory_never : refused.NoMemory ≡ refused.ReadFault → ⊥
-memory_never e = cc
 
 -- the history's own reading, from its first line on
 from_head : (bytes : List ℕ) (x : TextHead × Place) → first_line.take (1, bytes) ≡ Ok x → history.take (1, bytes) ≡ take_parts history_headed x
@@ -157,31 +150,7 @@ reading_err bytes q e = of (first_line.take (1, bytes)) refl e
         subst (λ (r : AuditReadRefused). Bad bytes r) (refusal_is (refused.BadLine f.0 f.1) q g)
         (stops_here bytes f (ap (λ (r : Reading TextHead). r then take_parts history_headed) d))
 
--- reading tells of no read that failed
-lines_never : (r : Reading History) → of_lines r ≡ Err refused.ReadFault → ⊥
-lines_never (Ok (v, (n, []))) e = not_refused v refused.ReadFault e
-lines_never (Ok (v, (n, b ∷ bs))) e = bad_never n kind.End (refusal_is (refused.BadLine n kind.End) refused.ReadFault e)
-lines_never (Err f) e = bad_never f.0 f.1 (refusal_is (refused.BadLine f.0 f.1) refused.ReadFault e)
-
-reading_never : (bytes : List ℕ) → reading bytes ≡ Err refused.ReadFault → ⊥
-reading_never bytes e = of (first_line.take (1, bytes)) e
-  where
-    of : (r : Reading TextHead) → behind_head r ≡ Err refused.ReadFault → ⊥
-    of (Err f) g = bad_never f.0 f.1 (refusal_is (refused.BadLine f.0 f.1) refused.ReadFault g)
-    of (Ok x) g =
-        elim (chosen (nat_lt MAX_ENTRIES x.0.entries) (Err (refused.TooMany x.0.entries)) (of_lines (take_parts history_headed x)) (Err refused.ReadFault) g) [
-          | inl h ↦ many_never x.0.entries (refusal_is (refused.TooMany x.0.entries) refused.ReadFault h.1)
-          | inr h ↦ lines_never (take_parts history_headed x) h.1
-        ]
-
 -- ---- what the calls return
-
-pub no_read_fault : (P : Type 0) (bytes : List ℕ) (result : Result History AuditReadRefused) → GivesHistory result (reading bytes) → IfErr result (λ r. r ≡ refused.ReadFault → P)
-no_read_fault P bytes (Ok h) g = tt
-no_read_fault P bytes (Err refused.ReadFault) g = λ e. absurd (reading_never bytes (sym g))
-no_read_fault P bytes (Err (refused.TooMany n)) g = λ e. absurd (many_never n e)
-no_read_fault P bytes (Err (refused.BadLine n k)) g = λ e. absurd (bad_never n k e)
-no_read_fault P bytes (Err refused.NoMemory) g = λ e. absurd (memory_never e)
 
 pub on_judged : (P : Type 0) (result : Result History AuditReadRefused) → P → OnJudged result P
 on_judged P (Ok h) p = p
@@ -189,6 +158,13 @@ on_judged P (Err refused.ReadFault) p = tt
 on_judged P (Err (refused.TooMany n)) p = p
 on_judged P (Err (refused.BadLine n k)) p = p
 on_judged P (Err refused.NoMemory) p = tt
+
+pub judged_as : (P Q : Type 0) → (P → Q) → (result : Result History AuditReadRefused) → OnJudged result P → OnJudged result Q
+judged_as P Q f (Ok h) p = f p
+judged_as P Q f (Err refused.ReadFault) p = tt
+judged_as P Q f (Err (refused.TooMany n)) p = f p
+judged_as P Q f (Err (refused.BadLine n k)) p = f p
+judged_as P Q f (Err refused.NoMemory) p = tt
 
 pub is_reading : (bytes : List ℕ) (result : Result History AuditReadRefused) → GivesHistory result (reading bytes) → IsReading bytes result
 is_reading bytes (Ok h) g = reading_ok bytes h (sym g)
@@ -208,15 +184,18 @@ reading_again h f le =
     ∙ ap (λ (t : Bool). cond t (Err (refused.TooMany (length h.entries))) (of_lines (take_parts s (s.head_of h, (1 + lines_in (first_line.spell (s.head_of h)), behind))))) (not_many (length h.entries) le)
     ∙ ap of_lines parts
 
-pub is_read_as : (bytes : List ℕ) (h : History) (result : Result History AuditReadRefused) → IsSpelled h → length h.entries ≤ MAX_ENTRIES → bytes ≡ audit_text h
+pub is_read_as : (bytes : List ℕ) (h : History) (result : Result History AuditReadRefused) → IsSpelled h → length h.entries ≤ MAX_ENTRIES → OnJudged result (bytes ≡ audit_text h)
     → GivesHistory result (reading bytes) → IsReadAs h result
-is_read_as bytes h result f le text g = of result (ap reading text ∙ reading_again h f le) g
+is_read_as bytes h result f le text g = of result text g
   where
-    of : (r : Result History AuditReadRefused) → reading bytes ≡ Ok h → GivesHistory r (reading bytes) → IsReadAs h r
-    of (Ok v) d e = history_is v h (e ∙ d)
+    again : bytes ≡ audit_text h → reading bytes ≡ Ok h
+    again e = ap reading e ∙ reading_again h f le
+
+    of : (r : Result History AuditReadRefused) → OnJudged r (bytes ≡ audit_text h) → GivesHistory r (reading bytes) → IsReadAs h r
+    of (Ok v) d e = history_is v h (e ∙ again d)
     of (Err refused.ReadFault) d e = tt
-    of (Err (refused.TooMany n)) d e = not_history h (refused.TooMany n) (e ∙ d)
-    of (Err (refused.BadLine n k)) d e = not_history h (refused.BadLine n k) (e ∙ d)
+    of (Err (refused.TooMany n)) d e = not_history h (refused.TooMany n) (e ∙ again d)
+    of (Err (refused.BadLine n k)) d e = not_history h (refused.BadLine n k) (e ∙ again d)
     of (Err refused.NoMemory) d e = tt
 
 same_count : (m n : ℕ) → refused.TooMany m ≡ refused.TooMany n → m ≡ n
@@ -232,12 +211,23 @@ many_again bytes n t =
     ∙ ap (λ (b : Bool). cond b (Err (refused.TooMany t.head.entries)) (of_lines (take_parts history_headed (t.head, (1 + lines_in (first_line.spell t.head), t.rest))))) (is_many t.head.entries (subst (λ (k : ℕ). MAX_ENTRIES < k) t.told t.many))
     ∙ ap (λ (k : ℕ). Err (refused.TooMany k)) (sym t.told)
 
-pub is_refused_many : (bytes : List ℕ) (n : ℕ) (result : Result History AuditReadRefused) → IsTooMany bytes n → GivesHistory result (reading bytes) → IsRefusedMany n result
-is_refused_many bytes n result t g = of result (many_again bytes n t) g
+pub is_refused_many : (bytes told : List ℕ) (n : ℕ) (result : Result History AuditReadRefused) → IsTooMany told n → OnJudged result (bytes ≡ told)
+    → GivesHistory result (reading bytes) → IsRefusedMany n result
+is_refused_many bytes told n result t all g = of result all g
   where
-    of : (r : Result History AuditReadRefused) → reading bytes ≡ Err (refused.TooMany n) → GivesHistory r (reading bytes) → IsRefusedMany n r
-    of (Ok v) d e = not_refused v (refused.TooMany n) (e ∙ d)
+    again : bytes ≡ told → reading bytes ≡ Err (refused.TooMany n)
+    again e = ap reading e ∙ many_again told n t
+
+    of : (r : Result History AuditReadRefused) → OnJudged r (bytes ≡ told) → GivesHistory r (reading bytes) → IsRefusedMany n r
+    of (Ok v) d e = not_refused v (refused.TooMany n) (e ∙ again d)
     of (Err refused.ReadFault) d e = tt
-    of (Err (refused.TooMany m)) d e = same_count m n (refusal_is (refused.TooMany m) (refused.TooMany n) (e ∙ d))
-    of (Err (refused.BadLine m k)) d e = other m n k (refusal_is (refused.BadLine m k) (refused.TooMany n) (e ∙ d))
+    of (Err (refused.TooMany m)) d e = same_count m n (refusal_is (refused.TooMany m) (refused.TooMany n) (e ∙ again d))
+    of (Err (refused.BadLine m k)) d e = other m n k (refusal_is (refused.BadLine m k) (refused.TooMany n) (e ∙ again d))
     of (Err refused.NoMemory) d e = tt
+
+pub read_fault_of : (a b : Stand) (result : Result History AuditReadRefused) → HasReadCause result a b → IfErr result (λ r. r ≡ refused.ReadFault → Rose a.faults b.faults)
+read_fault_of a b (Ok h) c = tt
+read_fault_of a b (Err refused.ReadFault) c = λ e. c
+read_fault_of a b (Err (refused.TooMany n)) c = λ e. absurd cc
+read_fault_of a b (Err (refused.BadLine n k)) c = λ e. absurd cc
+read_fault_of a b (Err refused.NoMemory) c = λ e. absurd cc

@@ -3,3 +3,4 @@ pub mod Audit
 pub mod Faults
 pub mod Outcomes
 pub mod Reads
+pub mod Takes

@@ -39,6 +39,8 @@ pub enum LineStop {
 pub enum Stop {
     /// Memory was refused.
     Memory,
+    /// The source failed, and counted it.
+    Failed,
     /// This line, counted from 1, is out of the grammar.
     Bad { line: u64, kind: LineKind },
 }

@@ -1,37 +1,32 @@
-// The lines of a text that are left. Contracts see the number of the next one, and the bytes from it on.
-ghost use Rattle.std.specs.Prelude.{◌≡◌, ◌<◌, ◌==◌, ◌^◌, length};
-ghost use Rattle.std.specs.Option.{option_copied};
+// The lines of a text, as a source gives them.
+ghost use Rattle.std.specs.Prelude.{◌≡◌, ◌≤◌, ℕ, List, IsTrue, [], length, IfOk, IfErr, Bool};
+ghost use Rattle.pk_outside.specs.Causes.{Rose};
+ghost use Rattle.pk_outside.specs.Streams.{Gave};
 ghost use Rattle.pk_types.specs.Pieces.{pieces_of};
 ghost use Rattle.audit_words.specs.Codecs.{whole};
 ghost use Rattle.audit_words.specs.Reads.{GivesAll};
 ghost use Rattle.audit_text.specs.Lines.{kind_of_words, line, value_of};
-ghost use Rattle.audit_text.specs.Reads.{CutsLine, Gives, LineGives};
+ghost use Rattle.audit_text.specs.Reads.{LineGives};
+ghost use Rattle.audit_text.specs.Takes.{stand, Takes, TakesLine, IsLeft, Closes};
 
-use crate::fault::{LineKind, LineStop, Stop};
+use crate::fault::{AuditReadRefused, LineKind, LineStop, Stop};
 use audit_values::Spell;
 use audit_words::{Kind, Stop as WordStop, Words};
-use pk_types::cut;
+use pk_outside::Source;
+use pk_types::NoMemory;
+use source_buffer::{Filled, LineRead, SourceBuffer};
 use std::alloc::Global;
-use std::marker::Model;
 
-/// The lines of a text that are left.
+/// The lines of a text, of which one is in memory at a time.
 #[derive(Drop)]
-pub struct Lines<'a> {
-    alloc: Global,
-    rest: &'a [u8],
+pub struct Lines {
+    pub alloc: Global,
+    /// What was read, and is not taken yet.
+    pub buffer: SourceBuffer,
+    /// The line that was taken last, without its LF.
+    pub line: Vec<u8>,
     /// The number of the next line, counted from 1.
-    number: u64,
-}
-
-impl<'a> Model for Lines<'a> {
-    ghost use Rattle.std.specs.Prelude.{◌+◌, ◌≤◌, ◌^◌, length};
-    ghost use Rattle.audit_text.specs.Lines.{Place};
-
-    ghost Value = { Place };
-
-    ghost view = { λ l. (l.number, l.rest.now) };
-
-    ghost invariant = { λ l. l.number + length l.rest.now ≤ 2 ^ 63 };
+    pub number: u64,
 }
 
 /// The kind of line of a kind of word.
@@ -76,63 +71,83 @@ fn value_of_line<T: Spell>(alloc: Global, word: &[u8], line: &[u8]) -> Result<T,
     }
 }
 
-impl<'a> Lines<'a> {
-    /// All lines of a text.
-    pub fn new(alloc: Global, text: &'a [u8]) -> Self
-        requires short { length text.now < 2 ^ 62 }
-        ensures lines { result ≡ (1, text.now) }
+impl Lines {
+    /// The lines of a source of which nothing was read.
+    pub fn new(alloc: Global) -> Result<Self, NoMemory>
+        ensures first { IfOk result (λ lines. lines.number ≡ 1) }
+        ensures empty { IfOk result (λ lines. lines.buffer ≡ []) }
     {
-        Lines {
+        let buffer = SourceBuffer::new(alloc)?;
+        Ok(Lines {
             alloc,
-            rest: text,
+            buffer,
+            line: Vec::new(alloc),
             number: 1,
-        }
+        })
     }
 
-    /// The number of the next line.
-    pub fn number(&self) -> u64
-        ensures number { result ≡ self.now.0 }
+    /// Takes the next line.
+    fn next<I: Source>(&mut self, input: &mut I) -> Result<(), Stop>
+        ensures line { TakesLine (stand self.old.number self.old.buffer (I.left input.old) (I.faults input.old) (I.ended input.old))
+            (stand self.new.number self.new.buffer (I.left input.new) (I.faults input.new) (I.ended input.new)) result self.new.line.items }
     {
-        self.number
-    }
-
-    /// Whether nothing is left.
-    pub fn is_empty(&self) -> bool
-        ensures empty { result ≡ (length self.now.1 == 0) }
-    {
-        self.rest.is_empty()
-    }
-
-    /// The next line, without its LF.
-    #[tactic(auto, using(audit_words::proofs::Cutting::cut_is_at, audit_words::proofs::Cutting::no_separator))]
-    fn next(&mut self) -> Option<&'a [u8]>
-        ensures cut { CutsLine self.old self.new (option_copied result) }
-    {
-        match cut(self.rest, b'\n') {
-            Some((line, rest)) => {
-                self.rest = rest;
-                self.number += 1;
-                Some(line)
+        let number = self.number;
+        match self.buffer.next_line(input, &mut self.line, usize::MAX) {
+            LineRead::Line => {
+                self.number = number.checked_add(1).ok_or(Stop::Memory)?;
+                Ok(())
             }
-            None => None,
+            LineRead::Last | LineRead::End => Err(Stop::Bad {
+                line: number,
+                kind: LineKind::End,
+            }),
+            LineRead::ReadFault => Err(Stop::Failed),
+            LineRead::TooLong | LineRead::NoMemory => Err(Stop::Memory),
         }
     }
 
     /// The value of the next line, which begins with this word.
-    pub fn item<T: Spell>(&mut self, word: &[u8]) -> Result<T, Stop>
-        ensures taken { Gives result self.new ((line word.now T.codec).take self.old) }
+    pub fn item<T: Spell, I: Source>(&mut self, input: &mut I, word: &[u8]) -> Result<T, Stop>
+        ensures taken { Takes (stand self.old.number self.old.buffer (I.left input.old) (I.faults input.old) (I.ended input.old))
+            (stand self.new.number self.new.buffer (I.left input.new) (I.faults input.new) (I.ended input.new)) result
+            (line word.now T.codec).take }
     {
         let number = self.number;
-        let Some(line) = self.next() else {
-            return Err(Stop::Bad {
-                line: number,
-                kind: LineKind::End,
-            });
-        };
-        match value_of_line(self.alloc, word, line) {
+        self.next(input)?;
+        match value_of_line(self.alloc, word, &self.line) {
             Ok(value) => Ok(value),
             Err(LineStop::Memory) => Err(Stop::Memory),
             Err(LineStop::Bad(kind)) => Err(Stop::Bad { line: number, kind }),
+        }
+    }
+
+    /// Whether no byte is left.
+    pub fn is_empty<I: Source>(&mut self, input: &mut I) -> Result<bool, Stop>
+        ensures empty { IsLeft (stand self.old.number self.old.buffer (I.left input.old) (I.faults input.old) (I.ended input.old))
+            (stand self.new.number self.new.buffer (I.left input.new) (I.faults input.new) (I.ended input.new)) result }
+    {
+        match self.buffer.fill(input, 1) {
+            Filled::There => Ok(false),
+            Filled::End => Ok(true),
+            Filled::ReadFault => Err(Stop::Failed),
+            Filled::NoMemory => Err(Stop::Memory),
+        }
+    }
+
+    /// The answer, once all bytes were read.
+    pub fn close<I: Source>(&mut self, input: &mut I, answer: AuditReadRefused) -> AuditReadRefused
+        ensures closed { Closes answer (stand self.old.number self.old.buffer (I.left input.old) (I.faults input.old) (I.ended input.old))
+            (stand self.new.number self.new.buffer (I.left input.new) (I.faults input.new) (I.ended input.new)) result }
+    {
+        'rest: loop {
+            let count = self.buffer.bytes().len();
+            self.buffer.take(count);
+            match self.buffer.fill(input, 1) {
+                Filled::There => {}
+                Filled::End => return answer,
+                Filled::ReadFault => return AuditReadRefused::ReadFault,
+                Filled::NoMemory => return AuditReadRefused::NoMemory,
+            }
         }
     }
 }

@@ -1,12 +1,12 @@
 // Reading audit texts.
-ghost use Rattle.std.specs.Prelude.{◌≡◌, ◌<◌, ◌≤◌, ◌^◌, ℕ, List, length, Some, IsTrue, IfErr};
+ghost use Rattle.std.specs.Prelude.{◌≡◌, ◌≤◌, ℕ, List, length, Some, IsTrue, IfErr};
 ghost use Rattle.pk_outside.specs.Causes.{Rose};
 ghost use Rattle.pk_outside.specs.Streams.{Gave};
 ghost use Rattle.authority_model.specs.declared.journal.History.{History as Journal};
-ghost use Rattle.audit_text.specs.Audit.{audit_text, IsSpelled, of_lines, first_line, history_headed, reading};
-ghost use Rattle.audit_text.specs.Lines.{take_parts, Reading};
+ghost use Rattle.audit_text.specs.Audit.{audit_text, IsSpelled, all_lines, behind_head, first_line, history_headed, unless_many};
+ghost use Rattle.audit_text.specs.Lines.{take_parts};
 ghost use Rattle.audit_text.specs.Outcomes.{IsReading, IsReadAs, IsRefusedMany, IsTooMany, OnJudged};
-ghost use Rattle.audit_text.specs.Reads.{Gives, GivesHistory};
+ghost use Rattle.audit_text.specs.Takes.{stand, Takes, Refuses, Ends};
 
 use crate::fault::{AuditReadRefused, LineKind, Stop};
 use crate::heads::TextHead;
@@ -15,69 +15,105 @@ use crate::loads::{next_items, next_loads};
 use authority_model::{Entry, History};
 use pk_outside::Source;
 use pk_types::NoMemory;
-use source_buffer::{Filled, SourceBuffer};
 use std::alloc::Global;
 
 /// The greatest number of entries of a history that is read.
 pub const MAX_ENTRIES: u64 = 65_536;
 
-/// More bytes than this are not read: no memory holds them.
-const MOST: usize = 4_611_686_018_427_387_904;
-
 /// What follows the first line: the loads, and then the entries.
-fn history_behind(alloc: Global, lines: &mut Lines, head: TextHead) -> Result<History, Stop>
-    ensures taken { Gives result lines.new (take_parts history_headed (head, lines.old)) }
+fn history_behind<I: Source>(
+    lines: &mut Lines,
+    input: &mut I,
+    head: TextHead,
+) -> Result<History, Stop>
+    ensures taken { Takes (stand lines.old.number lines.old.buffer (I.left input.old) (I.faults input.old) (I.ended input.old))
+        (stand lines.new.number lines.new.buffer (I.left input.new) (I.faults input.new) (I.ended input.new)) result
+        (λ place. take_parts history_headed (head, place)) }
 {
-    let loads = next_loads(alloc, lines, head.loads)?;
-    let entries = next_items(alloc, lines, b"entry", head.entries)?;
+    let loads = next_loads(lines, input, head.loads)?;
+    let entries = next_items(lines, input, b"entry", head.entries)?;
     Ok(History { entries, loads })
 }
 
-/// The same, with nothing behind it.
-fn whole_history(
-    alloc: Global,
+/// The refusal for a stop. Where a line is at fault, all of the input is read first.
+fn refused<I: Source>(lines: &mut Lines, input: &mut I, stop: Stop) -> AuditReadRefused
+    ensures refusal { Refuses stop (stand lines.old.number lines.old.buffer (I.left input.old) (I.faults input.old) (I.ended input.old))
+        (stand lines.new.number lines.new.buffer (I.left input.new) (I.faults input.new) (I.ended input.new)) result }
+{
+    match stop {
+        Stop::Memory => AuditReadRefused::NoMemory,
+        Stop::Failed => AuditReadRefused::ReadFault,
+        Stop::Bad {
+            line,
+            kind: LineKind::End,
+        } => AuditReadRefused::BadLine {
+            line,
+            kind: LineKind::End,
+        },
+        Stop::Bad { line, kind } => lines.close(input, AuditReadRefused::BadLine { line, kind }),
+    }
+}
+
+/// This history, where nothing is behind it.
+fn whole_history<I: Source>(
     lines: &mut Lines,
+    input: &mut I,
+    history: History,
+) -> Result<History, AuditReadRefused>
+    ensures ends { Ends (stand lines.old.number lines.old.buffer (I.left input.old) (I.faults input.old) (I.ended input.old))
+        (stand lines.new.number lines.new.buffer (I.left input.new) (I.faults input.new) (I.ended input.new)) result
+        (λ place. all_lines (history, place)) }
+{
+    let line = lines.number;
+    match lines.is_empty(input) {
+        Ok(true) => Ok(history),
+        Ok(false) => Err(lines.close(
+            input,
+            AuditReadRefused::BadLine {
+                line,
+                kind: LineKind::End,
+            },
+        )),
+        Err(stop) => Err(refused(lines, input, stop)),
+    }
+}
+
+/// The history that has this first line.
+fn history_of<I: Source>(
+    lines: &mut Lines,
+    input: &mut I,
     head: TextHead,
 ) -> Result<History, AuditReadRefused>
-    ensures whole { GivesHistory result (of_lines (take_parts history_headed (head, lines.old))) }
+    ensures ends { Ends (stand lines.old.number lines.old.buffer (I.left input.old) (I.faults input.old) (I.ended input.old))
+        (stand lines.new.number lines.new.buffer (I.left input.new) (I.faults input.new) (I.ended input.new)) result
+        (λ place. unless_many (head, place)) }
 {
-    match history_behind(alloc, lines, head) {
-        Ok(history) => {
-            if lines.is_empty() {
-                Ok(history)
-            } else {
-                Err(AuditReadRefused::BadLine {
-                    line: lines.number(),
-                    kind: LineKind::End,
-                })
-            }
-        }
-        Err(Stop::Memory) => Err(AuditReadRefused::NoMemory),
-        Err(Stop::Bad { line, kind }) => Err(AuditReadRefused::BadLine { line, kind }),
+    if head.entries > MAX_ENTRIES {
+        let answer = AuditReadRefused::TooMany {
+            entries: head.entries,
+        };
+        return Err(lines.close(input, answer));
+    }
+    match history_behind(lines, input, head) {
+        Ok(history) => whole_history(lines, input, history),
+        Err(stop) => Err(refused(lines, input, stop)),
     }
 }
 
-/// The history whose text the bytes are.
-fn history_of(alloc: Global, text: &[u8]) -> Result<History, AuditReadRefused>
-    requires short { length text.now < 2 ^ 62 }
-    ensures exact { GivesHistory result (reading text.now) }
+/// The history whose text the lines are.
+fn read_lines<I: Source>(lines: &mut Lines, input: &mut I) -> Result<History, AuditReadRefused>
+    ensures ends { Ends (stand lines.old.number lines.old.buffer (I.left input.old) (I.faults input.old) (I.ended input.old))
+        (stand lines.new.number lines.new.buffer (I.left input.new) (I.faults input.new) (I.ended input.new)) result
+        (λ place. behind_head (first_line.take place)) }
 {
-    let mut lines = Lines::new(alloc, text);
-    match lines.item::<TextHead>(b"audit") {
-        Ok(head) => {
-            if head.entries > MAX_ENTRIES {
-                return Err(AuditReadRefused::TooMany {
-                    entries: head.entries,
-                });
-            }
-            whole_history(alloc, &mut lines, head)
-        }
-        Err(Stop::Memory) => Err(AuditReadRefused::NoMemory),
-        Err(Stop::Bad { line, kind }) => Err(AuditReadRefused::BadLine { line, kind }),
+    match lines.item::<TextHead, I>(input, b"audit") {
+        Ok(head) => history_of(lines, input, head),
+        Err(stop) => Err(refused(lines, input, stop)),
     }
 }
 
-/// Reads an audit text: all bytes of the input are one.
+/// Reads an audit text: all bytes of the input are one. One line is in memory at a time, and the values that the
+/// lines before it spell.
 ///
 /// # Errors
 /// `ReadFault` where the source failed and counted it. `TooMany` where the first line is in form and tells more
@@ -92,13 +128,8 @@ pub fn read<I: Source>(alloc: Global, input: &mut I) -> Result<History, AuditRea
     ensures read_fault { IfErr result (λ refused. refused ≡ AuditReadRefused.ReadFault
         → Rose (I.faults input.old) (I.faults input.new)) }
 {
-    let mut buffer = match SourceBuffer::new(alloc) {
-        Ok(buffer) => buffer,
-        Err(NoMemory) => return Err(AuditReadRefused::NoMemory),
-    };
-    match buffer.fill(input, MOST) {
-        Filled::End => history_of(alloc, buffer.bytes()),
-        Filled::ReadFault => Err(AuditReadRefused::ReadFault),
-        Filled::There | Filled::NoMemory => Err(AuditReadRefused::NoMemory),
+    match Lines::new(alloc) {
+        Ok(mut lines) => read_lines(&mut lines, input),
+        Err(NoMemory) => Err(AuditReadRefused::NoMemory),
     }
 }

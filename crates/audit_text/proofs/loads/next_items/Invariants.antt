@@ -1,7 +1,10 @@
-use Rattle.std.proofs.Common.{◌≡◌, ◌-◌}
-use Rattle.audit_text.specs.Lines.{line, take_items}
-use Rattle.audit_text.proofs.Loops.{with_front}
+use Rattle.audit_text.specs.Lines.{line}
+use Rattle.audit_text.specs.Takes.{stand}
+use Rattle.audit_text.proofs.Taking.{TakesSome}
 use Rattle.audit_text.proofs.loads.next_items.Given as goal
 
 abbrev pub invariant-loop : goal.invariant-loop
-invariant-loop g l = with_front l.items (take_items (line l.word g.T.Spell.codec) (l.count - l.counter) l.lines) ≡ take_items (line l.word g.T.Spell.codec) l.count l.initial.lines
+invariant-loop g l =
+    TakesSome (line l.word g.T.Spell.codec) l.count l.counter l.items
+    (stand l.fn.lines.number l.fn.lines.buffer (g.I.Source.left l.fn.input) (g.I.Source.faults l.fn.input) (g.I.Source.ended l.fn.input))
+    (stand l.lines.number l.lines.buffer (g.I.Source.left l.input) (g.I.Source.faults l.input) (g.I.Source.ended l.input))

@@ -1,8 +1,10 @@
-use Rattle.std.proofs.Common.{◌≡◌, ◌-◌}
 use Rattle.audit_text.specs.Audit.{load}
-use Rattle.audit_text.specs.Lines.{take_items}
-use Rattle.audit_text.proofs.Loops.{with_front}
+use Rattle.audit_text.specs.Takes.{stand}
+use Rattle.audit_text.proofs.Taking.{TakesSome}
 use Rattle.audit_text.proofs.loads.next_loads.Given as goal
 
 abbrev pub invariant-loop : goal.invariant-loop
-invariant-loop l = with_front l.loads (take_items load (l.count - l.counter) l.lines) ≡ take_items load l.count l.initial.lines
+invariant-loop g l =
+    TakesSome load l.count l.counter l.loads
+    (stand l.fn.lines.number l.fn.lines.buffer (g.I.Source.left l.fn.input) (g.I.Source.faults l.fn.input) (g.I.Source.ended l.fn.input))
+    (stand l.lines.number l.lines.buffer (g.I.Source.left l.input) (g.I.Source.faults l.input) (g.I.Source.ended l.input))
