@@ -4,3 +4,4 @@ pub mod Faults
 pub mod Outcomes
 pub mod Reads
 pub mod Takes
+pub mod Pieces

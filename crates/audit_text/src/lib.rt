@@ -8,9 +8,11 @@ mod fault;
 mod heads;
 mod lines;
 mod loads;
+mod pieces;
 mod reading;
 mod writing;
 
 pub use fault::{AuditReadRefused, AuditWriteRefused, LineKind};
+pub use pieces::push_item;
 pub use reading::{MAX_ENTRIES, read};
 pub use writing::write;

@@ -16,7 +16,11 @@ use std::alloc::Global;
 
 /// Adds the line of a value, which begins with this word.
 #[tactic(auto, using(audit_words::proofs::Written::write_rules))]
-fn push_line<T: Spell>(text: &mut Vec<u8>, word: &[u8], value: &T) -> Result<(), NoMemory>
+pub(crate) fn push_line<T: Spell>(
+    text: &mut Vec<u8>,
+    word: &[u8],
+    value: &T,
+) -> Result<(), NoMemory>
     ensures line { OnOk result (text.new.items ≡ text.old.items ++ (line word.now T.codec).spell value.now) }
 {
     text.extend_from_slice(word)?;
@@ -36,7 +40,7 @@ fn push_lines<T: Spell>(text: &mut Vec<u8>, word: &[u8], values: &[T]) -> Result
 }
 
 /// Adds the lines of a load.
-fn push_load(text: &mut Vec<u8>, loaded: &Loaded) -> Result<(), NoMemory>
+pub(crate) fn push_load(text: &mut Vec<u8>, loaded: &Loaded) -> Result<(), NoMemory>
     ensures load { OnOk result (text.new.items ≡ text.old.items ++ load.spell loaded.now) }
 {
     push_line(text, b"load", &LoadHead::of(loaded))?;
