@@ -1,6 +1,6 @@
 -- What is known of a connection after one more item.
 use Rattle.std.proofs.Common.{◌≡◌, ℕ, ◌==◌, Bool, true, false, ◌&&◌, ◌||◌, not, List, [], ◌∷◌, refl, ap, sym, ◌∙◌, Option, Some, None, is_some, arith}
-use Rattle.std.proofs.lemmas.Bool.Decides.{nat_tests}
+use Rattle.std.proofs.lemmas.Bool.Decides.{Decides-eqb, nat_tests}
 use Rattle.std.specs.Ordering.{nat_cmp, is_eq}
 use Rattle.std.specs.Prelude.{if◌then◌else◌, option_map, option_and_then}
 use Rattle.std.specs.Option.{option_map_or}
@@ -109,11 +109,26 @@ same_world past i row numbered = go i.entry.event i.loaded row numbered
     go (Collect of) loaded row numbered = ap (λ l. after l row (Collect of)) numbered
 
 -- what is known of a connection after one more item
-pub known_next : (past : List Item) (i : Item) → IsNumbered (loads past) i.entry.event i.loaded → (c : ℕ) → known (i ∷ past) c ≡ known_by i.entry.caller (row_after (world_of (i ∷ past)) (known past c) i.entry.event) c (known past c)
+pub known_next : (past : List Item) (i : Item) → IsNumbered (loads past) i.entry.event i.loaded → (c : ℕ) → known (i ∷ past) c ≡ known_by i.entry.caller (row_after (world_of (i ∷ past)) (known past i.entry.caller) i.entry.event) c (known past c)
 known_next past i numbered c =
     known_step past i c
     ∙ ap (λ row. if i.entry.caller == c then row else known past c)
     (row_by_event (world_of past) (known past c) i.entry.event ∙ sym (same_world past i (known past c) numbered))
+    ∙ go (i.entry.caller == c) refl
+  where
+    after : ℕ → Option Peer
+    after q = row_after (world_of (i ∷ past)) (known past q) i.entry.event
+
+    go : (b : Bool) → (i.entry.caller == c) ≡ b → (if b then after c else known past c) ≡ (if b then after i.entry.caller else known past c)
+    go true e = ap after (sym ((Decides-eqb i.entry.caller c).0 e))
+    go false e = refl
+
+-- what is known of the caller after its item
+pub known_own : (past : List Item) (i : Item) → IsNumbered (loads past) i.entry.event i.loaded → known (i ∷ past) i.entry.caller ≡ row_after (world_of (i ∷ past)) (known past i.entry.caller) i.entry.event
+known_own past i numbered = known_next past i numbered i.entry.caller ∙ ap (λ b. if b then row_after (world_of (i ∷ past)) (known past i.entry.caller) i.entry.event else known past i.entry.caller) (self i.entry.caller)
+  where
+    self : (c : ℕ) → (c == c) ≡ true
+    self c = grind (arith, nat_tests)
 
 -- who is known stays known
 pub known_stays : (past : List Item) (i : Item) (c : ℕ) → known (i ∷ past) c ≡ None → known past c ≡ None
