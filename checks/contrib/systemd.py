@@ -3,9 +3,9 @@ import os, re, shutil, subprocess, time
 
 TOP = os.path.join(os.path.dirname(os.path.abspath(__file__)), '../..')
 PATIENCE = 20
-INSTALLED = ['bin/pkcheck-proved', 'bin/pkexplain-proved', 'bin/polkit_agent-proved', 'bin/polkitd-proved',
-             'lib/polkit-proved/pkcheck', 'lib/polkit-proved/pkexplain', 'lib/polkit-proved/polkit_agent', 'lib/polkit-proved/polkitd',
-             'share/man/man1/pkcheck-proved.1', 'share/man/man1/pkexplain-proved.1', 'share/man/man1/polkit_agent-proved.1', 'share/man/man5/polkitd-root.5', 'share/man/man5/polkitd-scenario.5',
+INSTALLED = ['bin/pkaudit-proved', 'bin/pkcheck-proved', 'bin/pkexplain-proved', 'bin/polkit_agent-proved', 'bin/polkitd-proved',
+             'lib/polkit-proved/pkaudit', 'lib/polkit-proved/pkcheck', 'lib/polkit-proved/pkexplain', 'lib/polkit-proved/polkit_agent', 'lib/polkit-proved/polkitd',
+             'share/man/man1/pkaudit-proved.1', 'share/man/man1/pkcheck-proved.1', 'share/man/man1/pkexplain-proved.1', 'share/man/man1/polkit_agent-proved.1', 'share/man/man5/polkitd-root.5', 'share/man/man5/polkitd-scenario.5',
              'share/man/man8/polkitd-proved.8']
 CLASHES = {'pkcheck', 'polkitd', 'polkit_agent', 'pkcheck.1', 'polkitd.8', 'polkit.service', 'pkaction', 'pkexec', 'pkttyagent'}
 
@@ -23,7 +23,7 @@ def files_below(folder):
 def programs_in(folder, programs):
     """A folder with the programs; one that was not given is stood in for by a file."""
     os.makedirs(folder)
-    for name in ('polkitd', 'pkcheck', 'polkit_agent', 'pkexplain'):
+    for name in ('polkitd', 'pkcheck', 'polkit_agent', 'pkexplain', 'pkaudit'):
         path = getattr(programs, name, None) or os.path.join(os.path.dirname(programs.polkitd), name)
         if os.path.isfile(path):
             shutil.copy(path, f'{folder}/{name}')
