@@ -1,7 +1,7 @@
 // Writing audit texts.
-ghost use Rattle.std.specs.Prelude.{◌≡◌, ◌++◌, [], OnOk, IfOk, IfErr};
+ghost use Rattle.std.specs.Prelude.{◌≡◌, ◌≤◌, ◌++◌, [], OnOk, IfOk, IfErr};
 ghost use Rattle.pk_outside.specs.Allowing.{MayGo};
-ghost use Rattle.pk_outside.specs.Causes.{Rose};
+ghost use Rattle.pk_outside.specs.Causes.{FailsLast, Rose};
 ghost use Rattle.pk_outside.specs.Streams.{Got, GotFront};
 ghost use Rattle.audit_text.specs.Audit.{audit_text, load};
 ghost use Rattle.audit_text.specs.Lines.{line, spell_items};
@@ -97,6 +97,9 @@ pub fn write<O: Sink>(
         Rose (O.faults output.old) (O.faults output.new)
         × GotFront (O.held output.old) (O.held output.new) (audit_text history.now)) }
     ensures memory { IfErr result (λ refused. refused ≡ AuditWriteRefused.NoMemory → output.new ≡ output.old) }
+    ensures later { O.faults output.old ≤ O.faults output.new }
+    ensures quiet { OnOk result (O.faults output.new ≡ O.faults output.old) }
+    ensures last { IfErr result (λ refused. refused ≡ AuditWriteRefused.WriteFault → FailsLast O.held O.faults output.old output.new) }
 {
     let text = match text_of(alloc, history) {
         Ok(text) => text,

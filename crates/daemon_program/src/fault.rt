@@ -233,7 +233,7 @@ pub(crate) fn words_fault<'a>(words: &'a [Text]) -> Option<WordsFault<'a>> {
         return Some(WordsFault::NoCommand);
     };
     match shown(first) {
-        "replay" => fault_in(&REPLAY, rest),
+        "replay" | "audit" => fault_in(&REPLAY, rest),
         "pipe" => fault_in(&PIPE, rest),
         "load" => fault_in(&LOAD, rest),
         "serve" => Some(fault_in(&SERVE, rest).unwrap_or(WordsFault::TooManySlots)),
@@ -267,10 +267,10 @@ impl<'a> fmt::Display for WordsFault<'a> {
     fn fmt<W: fmt::Write>(&self, f: &mut fmt::Formatter<W>) -> fmt::Result {
         match self {
             WordsFault::NoCommand => {
-                write!(f, "a command is required: replay, pipe, serve or load")
+                write!(f, "a command is required: replay, audit, pipe, serve or load")
             }
             WordsFault::NotACommand { word } => {
-                write!(f, "'{word}' is not a command: replay, pipe, serve or load")
+                write!(f, "'{word}' is not a command: replay, audit, pipe, serve or load")
             }
             WordsFault::Required {
                 part,

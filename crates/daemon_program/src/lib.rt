@@ -23,6 +23,7 @@ use std::thread::Threads;
 /// What the program tells of itself.
 const TEXTS: ProgramTexts = ProgramTexts {
     help: "usage: polkitd replay [--root DIR] [--entries K]
+       polkitd audit [--root DIR] [--entries K]
        polkitd pipe UID --root DIR [--entries K]
        polkitd serve --root DIR --door UID:PATH {--door UID:PATH} --slots N [--stop-after K]
                      [--entries K]
@@ -32,6 +33,8 @@ replay  runs the scenario on standard input, and writes its answers to standard 
         --root DIR   begins with the action files, rules, administrators, users, groups, sessions
                      and processes below DIR, and first writes a line for each that it skips
         --entries K  the journal holds at most K entries, 1 to 1048576
+audit   runs the scenario as replay does, and writes to standard output at its end the whole journal
+        as an audit text, in place of all answers
 pipe    serves one connection of the user UID: D-Bus messages on standard input, and the messages
         to the connection on standard output, with what the files below DIR give
 serve   listens at Unix sockets, serves many connections at once, and answers all of them from one

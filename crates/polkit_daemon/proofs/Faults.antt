@@ -1,70 +1,13 @@
--- The counts of faults after one call and then another.
-use Rattle.std.proofs.Common.{◌≡◌, ℕ, List, Option, Result, Ok, Err, refl, sym, subst, ◌∙◌}
-use Rattle.std.specs.Result.{IsErrAnd}
-use Rattle.pk_outside.specs.Causes.{FailsLast}
-use Rattle.scenario_text.specs.declared.fault.LineKind.{LineKind}
-use Rattle.scenario_text.specs.declared.fault.LineKind.TheVariants as kind
-use Rattle.scenario_run.specs.declared.scenario.LineStop.{LineStop}
-use Rattle.scenario_run.specs.declared.scenario.LineStop.TheVariants as stop
-use Rattle.polkit_daemon.specs.declared.replaying.Stopped.{Stopped}
-use Rattle.polkit_daemon.specs.declared.replaying.Stopped.TheVariants as stopped
+-- The counts of faults, from the end of a run to the status of its command.
+use Rattle.std.proofs.Common.{◌≡◌, ℕ, List, Option, refl, sym, subst}
+use Rattle.replay_run.specs.declared.ends.ReplayEnd.{ReplayEnd}
+use Rattle.replay_run.specs.declared.ends.ReplayEnd.TheVariants as end
+use Rattle.replay_run.specs.Faults as replay
 use Rattle.polkit_daemon.specs.declared.status.Status.{Status}
 use Rattle.polkit_daemon.specs.declared.status.Status.TheVariants as status
-use Rattle.polkit_daemon.specs.declared.written.WriteRefused.{WriteRefused}
-use Rattle.polkit_daemon.specs.declared.written.WriteRefused.TheVariants as refused
-use Rattle.polkit_daemon.specs.Faults.{InputFaults, OutputFaults, LineWrites, AnswerWrites}
+use Rattle.polkit_daemon.specs.Faults.{InputFaults, OutputFaults}
 use Rattle.polkit_daemon.specs.Generate.{Generates}
-use Rattle.polkit_daemon.specs.Lines.{stop_at, stop_of, status_of}
-
--- the last call failed, and none before it, from an earlier moment on that had the same count
-pub fails_later : {S : Type 0} (content : S → Option (List ℕ)) (faults : S → ℕ) (first before now : S) → faults before ≡ faults first
-    → FailsLast content faults before now → FailsLast content faults first now
-fails_later content faults first before now quiet failed = record {
-  moment = failed.moment;
-  quiet = failed.quiet ∙ quiet;
-  counted = failed.counted;
-  same = failed.same;
-}
-
--- answer lines after others that were written
-pub answers_later : {S : Type 0} (held : S → Option (List ℕ)) (faults : S → ℕ) (first before now : S) (result : Result (Unit {0}) WriteRefused)
-    → faults before ≡ faults first → AnswerWrites held faults before now result → AnswerWrites held faults first now result
-answers_later held faults first before now (Ok done) quiet writes = writes ∙ quiet
-answers_later held faults first before now (Err refused.Failed) quiet writes = fails_later held faults first before now quiet writes
-answers_later held faults first before now (Err refused.NoMemory) quiet writes = writes ∙ quiet
-
--- answer lines after others that were written, the last of which was refused
-pub answers_refused : {S : Type 0} (held : S → Option (List ℕ)) (faults : S → ℕ) (first before now : S) (result : Result (Unit {0}) WriteRefused) (e : WriteRefused)
-    → IsErrAnd result (λ (y : WriteRefused). y ≡ e) → faults before ≡ faults first → AnswerWrites held faults before now (Err e) → AnswerWrites held faults first now result
-answers_refused held faults first before now (Ok done) e is quiet writes = absurd is
-answers_refused held faults first before now (Err y) e is quiet writes =
-    subst (λ (r : WriteRefused). AnswerWrites held faults first now (Err r)) (sym is) (answers_later held faults first before now (Err e) quiet writes)
-
--- a line with a fault writes nothing
-fault_writes : {S : Type 0} (held : S → Option (List ℕ)) (faults : S → ℕ) (output : S) (fault : LineKind) → LineWrites held faults output output (Err (stop_at fault))
-fault_writes held faults output kind.NoMemory = refl
-fault_writes held faults output other = refl
-
--- a line that stopped the run before its answers writes nothing
-pub stop_writes : {S : Type 0} (held : S → Option (List ℕ)) (faults : S → ℕ) (output : S) (st : LineStop) → LineWrites held faults output output (Err (stop_of st))
-stop_writes held faults output (stop.Fault fault) = fault_writes held faults output fault.kind
-stop_writes held faults output (stop.JournalFull entries bytes) = refl
-
--- a run that a line stopped had no read fault
-pub stopped_reads : {S : Type 0} (left : S → Option (List ℕ)) (faults : S → ℕ) (before now : S) (e : Stopped) (n : ℕ) → faults now ≡ faults before
-    → InputFaults left faults before now (status_of e n)
-stopped_reads left faults before now (stopped.Fault kind) n quiet = quiet
-stopped_reads left faults before now (stopped.JournalFull entries bytes) n quiet = quiet
-stopped_reads left faults before now stopped.WriteFault n quiet = quiet
-stopped_reads left faults before now stopped.NoMemory n quiet = quiet
-
--- a run that a line stopped has the write fault of that line
-pub stopped_writes : {S : Type 0} (held : S → Option (List ℕ)) (faults : S → ℕ) (first before now : S) (e : Stopped) (n : ℕ) → faults before ≡ faults first
-    → LineWrites held faults before now (Err e) → OutputFaults held faults first now (status_of e n)
-stopped_writes held faults first before now (stopped.Fault kind) n quiet writes = writes ∙ quiet
-stopped_writes held faults first before now (stopped.JournalFull entries bytes) n quiet writes = writes ∙ quiet
-stopped_writes held faults first before now stopped.WriteFault n quiet writes = fails_later held faults first before now quiet writes
-stopped_writes held faults first before now stopped.NoMemory n quiet writes = writes ∙ quiet
+use Rattle.polkit_daemon.specs.Replayed.{status_of}
 
 -- a generated run reads nothing
 pub generates_reads : {S : Type 0} (left : S → Option (List ℕ)) (faults : S → ℕ) (input : S) (checks : ℕ) (held held' : Option (List ℕ)) (s : Status)
@@ -72,8 +15,26 @@ pub generates_reads : {S : Type 0} (left : S → Option (List ℕ)) (faults : S 
 generates_reads left faults input checks held held' status.ReadFault run = absurd run
 generates_reads left faults input checks held held' other run = refl
 
--- the faults of a run that began behind writes that went well
-pub outputs_later : {S : Type 0} (held : S → Option (List ℕ)) (faults : S → ℕ) (first before now : S) (s : Status) → faults before ≡ faults first
-    → OutputFaults held faults before now s → OutputFaults held faults first now s
-outputs_later held faults first before now status.WriteFault quiet writes = fails_later held faults first before now quiet writes
-outputs_later held faults first before now other quiet writes = writes ∙ quiet
+-- the status of a replay says of the input what its end says
+pub replay_reads : {S : Type 0} (left : S → Option (List ℕ)) (faults : S → ℕ) (before now : S) (stop : ReplayEnd) → replay.InputFaults left faults before now stop
+    → InputFaults left faults before now (status_of stop)
+replay_reads left faults before now end.Done reads = reads
+replay_reads left faults before now (end.TreeFault count) reads = reads
+replay_reads left faults before now (end.LoadRefused why) reads = reads
+replay_reads left faults before now end.ReadFault reads = reads
+replay_reads left faults before now end.WriteFault reads = reads
+replay_reads left faults before now (end.JournalFull entries bytes) reads = reads
+replay_reads left faults before now (end.BadLine line why) reads = reads
+replay_reads left faults before now end.NoMemory reads = reads
+
+-- and of the output
+pub replay_writes : {S : Type 0} (held : S → Option (List ℕ)) (faults : S → ℕ) (before now : S) (stop : ReplayEnd) → replay.OutputFaults held faults before now stop
+    → OutputFaults held faults before now (status_of stop)
+replay_writes held faults before now end.Done writes = writes
+replay_writes held faults before now (end.TreeFault count) writes = writes
+replay_writes held faults before now (end.LoadRefused why) writes = writes
+replay_writes held faults before now end.ReadFault writes = writes
+replay_writes held faults before now end.WriteFault writes = writes
+replay_writes held faults before now (end.JournalFull entries bytes) writes = writes
+replay_writes held faults before now (end.BadLine line why) writes = writes
+replay_writes held faults before now end.NoMemory writes = writes

@@ -1,10 +1,3 @@
-pub mod Entered
-pub mod Exits
 pub mod Faults
-pub mod Grows
 pub mod Loading
-pub mod Runs
 pub mod Services
-pub mod Texts
-pub mod Leading
-pub mod FirstLoads

@@ -2,7 +2,7 @@
 use Rattle.std.proofs.Common.{◌≡◌, ℕ, List, [], Option, Some, None, refl, sym, ap, ◌∙◌}
 use Rattle.pk_outside.proofs.Written.{Got-none}
 use Rattle.pk_outside.specs.Trees.{TreeTold}
-use Rattle.polkit_daemon.specs.Commands.{Named, limits_of}
+use Rattle.polkit_daemon.specs.Commands.{Beginning, Named, beginning, limits_of}
 use Rattle.polkit_daemon.specs.Piped.{Plan}
 use Rattle.polkit_daemon.specs.declared.status.Status.TheVariants as status
 use Rattle.polkit_daemon.specs.Generate.{Generates, generated_line}
@@ -19,21 +19,18 @@ checks_of _ = 0
 pub same_checks : (named : Option Named) (a b : ℕ) → named ≡ Some (Named.Load a) → named ≡ Some (Named.Load b) → a ≡ b
 same_checks named a b is_a is_b = ap checks_of (sym is_a ∙ is_b)
 
-abbrev entries_of : Option Named → ℕ
-entries_of (Some (Named.Replay root entries)) = entries
-entries_of _ = 0
+abbrev beginning_of : Option Named → Beginning
+beginning_of (Some (Named.Replay root entries)) = beginning root entries
+beginning_of (Some (Named.Audit root entries)) = beginning root entries
+beginning_of _ = beginning None 0
 
-abbrev root_of : Option Named → Option (List ℕ)
-root_of (Some (Named.Replay root entries)) = root
-root_of _ = None
+-- a replay has one root and one limit of entries
+pub same_replay : (named : Option Named) (r s : Option (List ℕ)) (a b : ℕ) → named ≡ Some (Named.Replay r a) → named ≡ Some (Named.Replay s b) → beginning r a ≡ beginning s b
+same_replay named r s a b is_a is_b = ap beginning_of (sym is_a ∙ is_b)
 
--- a command has one limit of entries
-pub same_entries : (named : Option Named) (r s : Option (List ℕ)) (a b : ℕ) → named ≡ Some (Named.Replay r a) → named ≡ Some (Named.Replay s b) → a ≡ b
-same_entries named r s a b is_a is_b = ap entries_of (sym is_a ∙ is_b)
-
--- a command has one root
-pub same_root : (named : Option Named) (r s : Option (List ℕ)) (a b : ℕ) → named ≡ Some (Named.Replay r a) → named ≡ Some (Named.Replay s b) → r ≡ s
-same_root named r s a b is_a is_b = ap root_of (sym is_a ∙ is_b)
+-- and so has an audit
+pub same_audit : (named : Option Named) (r s : Option (List ℕ)) (a b : ℕ) → named ≡ Some (Named.Audit r a) → named ≡ Some (Named.Audit s b) → beginning r a ≡ beginning s b
+same_audit named r s a b is_a is_b = ap beginning_of (sym is_a ∙ is_b)
 
 -- the plan of a pipe of this user, root and limit of entries
 abbrev pub plan : Option TreeTold → ℕ → List ℕ → ℕ → Plan

@@ -8,11 +8,13 @@ use Rattle.authority_model.specs.declared.journal.TheConstants.{MAX_BYTES, MAX_E
 use Rattle.serve_words.specs.Plans.{entries_in, is_root, plan_in, positive_up_to}
 use Rattle.polkit_daemon.specs.declared.command.Command.{Command}
 use Rattle.polkit_daemon.specs.declared.command.Command.TheVariants as command
+use Rattle.polkit_daemon.specs.declared.command.Scenario.{Scenario}
 use Rattle.polkit_daemon.specs.declared.command.TheConstants.{MAX_CHECKS}
 
--- A command: a replay with its root and its limit of entries, a pipe with the user of its connection, its root and its limit of entries, a service by the words that name its plan, or a generated run of so many checks.
+-- A command: a replay or an audit with its root and its limit of entries, a pipe with the user of its connection, its root and its limit of entries, a service by the words that name its plan, or a generated run of so many checks.
 pub data Named : Type 0 where
   Replay : Option (List ℕ) → ℕ → Named
+  Audit : Option (List ℕ) → ℕ → Named
   Pipe : ℕ → List ℕ → ℕ → Named
   Serve : List (List ℕ) → Named
   Load : ℕ → Named
@@ -20,18 +22,39 @@ pub data Named : Type 0 where
 -- the command that the code tells
 abbrev pub command_seen : Command → Named
 command_seen (command.Replay root entries) = Named.Replay (option_copied root) entries
+command_seen (command.Audit root entries) = Named.Audit (option_copied root) entries
 command_seen (command.Pipe uid root entries) = Named.Pipe uid root.now entries
 command_seen (command.Serve words) = Named.Serve words.now
 command_seen (command.Load checks) = Named.Load checks
 
--- the replay from this root, with a limit of entries
-abbrev pub rooted : List ℕ → Option ℕ → Option Named
-rooted root entries = if is_root root then option_map (Named.Replay (Some root)) entries else None
+-- where a scenario begins: the root of its first draft, if there is one, and its limit of entries
+pub record Beginning : Type 0 where
+  pub root : Option (List ℕ)
+  pub entries : ℕ
+
+abbrev pub beginning : Option (List ℕ) → ℕ → Beginning
+beginning root entries = record { root = root; entries = entries }
+
+-- a beginning from this root, with a limit of entries
+abbrev pub rooted : List ℕ → Option ℕ → Option Beginning
+rooted root entries = if is_root root then option_map (beginning (Some root)) entries else None
+
+-- the beginning that the words `[--root DIR] [--entries K]` name
+abbrev pub beginning_in : List (List ℕ) → Option Beginning
+beginning_in (option ∷ root ∷ words) = if bytes_eq option (codes "--root") then rooted root (entries_in words) else option_map (beginning None) (entries_in (option ∷ root ∷ words))
+beginning_in words = option_map (beginning None) (entries_in words)
+
+-- the beginning that the code tells
+abbrev pub beginning_seen : Scenario → Beginning
+beginning_seen s = beginning (option_copied s.root) s.entries
 
 -- the replay that the words after `replay` name
 abbrev pub replay_in : List (List ℕ) → Option Named
-replay_in (option ∷ root ∷ words) = if bytes_eq option (codes "--root") then rooted root (entries_in words) else option_map (Named.Replay None) (entries_in (option ∷ root ∷ words))
-replay_in words = option_map (Named.Replay None) (entries_in words)
+replay_in words = option_map (λ b. Named.Replay b.root b.entries) (beginning_in words)
+
+-- the audit that the words after `audit` name
+abbrev pub audit_in : List (List ℕ) → Option Named
+audit_in words = option_map (λ b. Named.Audit b.root b.entries) (beginning_in words)
 
 -- the pipe of this user from this root, with a limit of entries
 abbrev pub pipe_from : List ℕ → ℕ → Option ℕ → Option Named
@@ -56,9 +79,10 @@ abbrev pub command_of : List (List ℕ) → Option Named
 command_of [] = None
 command_of (word ∷ words) =
     if bytes_eq word (codes "replay") then replay_in words else
+    (if bytes_eq word (codes "audit") then audit_in words else
     (if bytes_eq word (codes "pipe") then pipe_in words else
     (if bytes_eq word (codes "load") then load_in words else
-    (if bytes_eq word (codes "serve") then serve_in words else None)))
+    (if bytes_eq word (codes "serve") then serve_in words else None))))
 
 -- the words name no service
 abbrev pub IsNoService : Option Named → Type 0
@@ -80,6 +104,7 @@ AsksNoTree other = ⊥
 -- the numbers of a command are in their ranges, and the words of a service name a plan
 abbrev pub IsInRange : Command → Type 0
 IsInRange (command.Replay root entries) = (1 ≤ entries) × (entries ≤ MAX_ENTRIES)
+IsInRange (command.Audit root entries) = (1 ≤ entries) × (entries ≤ MAX_ENTRIES)
 IsInRange (command.Pipe uid root entries) = (1 ≤ entries) × (entries ≤ MAX_ENTRIES)
 IsInRange (command.Serve words) = is_some (plan_in words.now) ≡ true
 IsInRange (command.Load checks) = (1 ≤ checks) × (checks ≤ MAX_CHECKS)

@@ -1,11 +1,7 @@
 pub mod Codes
 pub mod Commands
-pub mod Counted
 pub mod Faults
 pub mod Generate
-pub mod Lines
 pub mod Piped
-pub mod Playing
-pub mod Replay
-pub mod Rooted
+pub mod Replayed
 pub mod Served

@@ -11,7 +11,7 @@ use Rattle.pipe_run.specs.Ends.{Pipes, Traffic, traffic}
 use Rattle.pipe_run.specs.Supplies.{Supply}
 use Rattle.polkit_daemon.specs.declared.status.Status.{Status}
 use Rattle.polkit_daemon.specs.declared.status.Status.TheVariants as status
-use Rattle.polkit_daemon.specs.Rooted.{IsFirst, IsFirstRefused}
+use Rattle.replay_run.specs.Rooted.{IsFirst, IsFirstRefused}
 
 -- how the end of a run ends the command
 abbrev pub status_of : PipeEnd → Status

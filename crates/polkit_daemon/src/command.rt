@@ -1,7 +1,8 @@
 // The command line of the daemon.
+ghost use Rattle.authority_model.specs.declared.journal.TheConstants.{MAX_ENTRIES};
 ghost use Rattle.std.specs.Prelude.{◌≡◌, ◌≤◌, IfSome};
 ghost use Rattle.std.specs.Option.{option_copied, option_map};
-ghost use Rattle.polkit_daemon.specs.Commands.{command_of, command_seen, load_in, pipe_in, replay_in, serve_in, IsInRange};
+ghost use Rattle.polkit_daemon.specs.Commands.{audit_in, beginning_in, beginning_seen, command_of, command_seen, load_in, pipe_in, replay_in, serve_in, IsInRange};
 
 use pk_types::{Text, number};
 use serve_words::{entries_in, is_plan, is_root, positive};
@@ -16,6 +17,12 @@ pub enum Command<'a> {
     /// tree below the root gives, and has a journal of at most so many entries, from 1 to 1,048,576;
     /// without the option of that many.
     Replay {
+        root: Option<&'a Text>,
+        entries: u64,
+    },
+    /// `audit [--root DIR] [--entries K]`: runs the scenario on the input as `replay` does, and writes
+    /// the audit text of its journal.
+    Audit {
         root: Option<&'a Text>,
         entries: u64,
     },
@@ -38,10 +45,17 @@ pub enum Command<'a> {
     },
 }
 
-/// The replay that the words after `replay` name.
-fn replay_in(words: &[Text]) -> Option<Command<'_>>
-    ensures command { option_map command_seen result ≡ replay_in words.now }
-    ensures range { IfSome result IsInRange }
+/// Where a scenario begins: the root of its first draft, if there is one, and its limit of entries.
+#[derive(Clone, Copy)]
+struct Scenario<'a> {
+    root: Option<&'a Text>,
+    entries: u64,
+}
+
+/// The scenario that the words `[--root DIR] [--entries K]` name.
+fn scenario_in(words: &[Text]) -> Option<Scenario<'_>>
+    ensures beginning { option_map beginning_seen result ≡ beginning_in words.now }
+    ensures range { IfSome result (λ scenario. (1 ≤ scenario.entries) × (scenario.entries ≤ MAX_ENTRIES)) }
 {
     match words {
         [option, root, rest @ ..] if option.bytes() == b"--root".as_slice() => {
@@ -49,19 +63,37 @@ fn replay_in(words: &[Text]) -> Option<Command<'_>>
                 return None;
             }
             let entries = entries_in(rest)?;
-            Some(Command::Replay {
+            Some(Scenario {
                 root: Some(root),
                 entries,
             })
         }
         _ => {
             let entries = entries_in(words)?;
-            Some(Command::Replay {
+            Some(Scenario {
                 root: None,
                 entries,
             })
         }
     }
+}
+
+/// The replay that the words after `replay` name.
+fn replay_in(words: &[Text]) -> Option<Command<'_>>
+    ensures command { option_map command_seen result ≡ replay_in words.now }
+    ensures range { IfSome result IsInRange }
+{
+    let Scenario { root, entries } = scenario_in(words)?;
+    Some(Command::Replay { root, entries })
+}
+
+/// The audit that the words after `audit` name.
+fn audit_in(words: &[Text]) -> Option<Command<'_>>
+    ensures command { option_map command_seen result ≡ audit_in words.now }
+    ensures range { IfSome result IsInRange }
+{
+    let Scenario { root, entries } = scenario_in(words)?;
+    Some(Command::Audit { root, entries })
 }
 
 /// The pipe that the words after `pipe` name.
@@ -119,6 +151,9 @@ impl Command<'_> {
         let (word, rest) = words.split_first()?;
         if word.bytes() == b"replay".as_slice() {
             return replay_in(rest);
+        }
+        if word.bytes() == b"audit".as_slice() {
+            return audit_in(rest);
         }
         if word.bytes() == b"pipe".as_slice() {
             return pipe_in(rest);

@@ -7,7 +7,6 @@ ghost use Rattle.pipe_run.specs.Supplies.{supply};
 ghost use Rattle.polkit_daemon.specs.Faults.{InputFaults, OutputFaults};
 ghost use Rattle.polkit_daemon.specs.Piped.{PipesFrom, status_of};
 
-use crate::rooted::refused_status;
 use crate::status::Status;
 use authority_core::Limits;
 use pipe_run::{PipeEnd, run_pipe};
@@ -75,6 +74,6 @@ pub fn pipe<T: Tree, C: Clock, S: Salt, I: Source, O: Sink>(
         Ok(first) => status_of(run_pipe(
             alloc, uid, root, limits, first, tree, clock, salt, input, output,
         )),
-        Err(refused) => refused_status(refused),
+        Err(refused) => Status::of_refused(refused),
     }
 }

@@ -1,11 +1,14 @@
 // How a command of the daemon ended.
 ghost use Rattle.std.specs.Prelude.{◌≡◌};
 ghost use Rattle.polkit_daemon.specs.Codes.{code_of};
+ghost use Rattle.polkit_daemon.specs.Replayed.{refused_status};
+ghost use Rattle.polkit_daemon.specs.Replayed as replayed;
 ghost use Rattle.polkit_daemon.specs.Served.{status_of};
 
 use authority_service::ServiceEnd;
 use dbus_values::FaultKind;
 use policy_load::LoadRefused;
+use replay_run::ReplayEnd;
 use scenario_text::LineKind;
 use std::fmt;
 
@@ -42,6 +45,33 @@ pub enum Status {
 }
 
 impl Status {
+    /// The status of a command whose first load was refused so.
+    pub(crate) fn of_refused(refused: LoadRefused) -> Status
+        ensures status { result ≡ refused_status refused }
+    {
+        match refused {
+            LoadRefused::TreeFault { count } => Status::TreeFault { count },
+            LoadRefused::NoMemory => Status::NoMemory,
+            refused => Status::LoadRefused { refused },
+        }
+    }
+
+    /// The status of a replay, or of an audit, that ended so.
+    pub(crate) fn of_replay(end: ReplayEnd) -> Status
+        ensures status { result ≡ replayed.status_of end }
+    {
+        match end {
+            ReplayEnd::Done => Status::Done,
+            ReplayEnd::TreeFault { count } => Status::TreeFault { count },
+            ReplayEnd::LoadRefused { refused } => Status::LoadRefused { refused },
+            ReplayEnd::ReadFault => Status::ReadFault,
+            ReplayEnd::WriteFault => Status::WriteFault,
+            ReplayEnd::JournalFull { entries, bytes } => Status::JournalFull { entries, bytes },
+            ReplayEnd::BadLine { line, kind } => Status::BadLine { line, kind },
+            ReplayEnd::NoMemory => Status::NoMemory,
+        }
+    }
+
     /// The status of a service that ended so.
     pub(crate) fn of_service(end: ServiceEnd) -> Status
         ensures status { result ≡ status_of end }

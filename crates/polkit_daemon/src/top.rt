@@ -5,7 +5,7 @@ ghost use Rattle.polkit_daemon.specs.Commands.{AsksNoStation, AsksNoTree, IsNoSe
 ghost use Rattle.polkit_daemon.specs.Faults.{InputFaults, OutputFaults};
 ghost use Rattle.polkit_daemon.specs.Generate.{Generates};
 ghost use Rattle.polkit_daemon.specs.Piped.{PipesMade};
-ghost use Rattle.polkit_daemon.specs.Rooted.{ReplaysFrom};
+ghost use Rattle.polkit_daemon.specs.Replayed.{AuditsFrom, ReplaysFrom};
 ghost use Rattle.authority_service.specs.Service.{outside};
 ghost use Rattle.polkit_daemon.specs.Served.{IsServedOrUntouched};
 ghost use Rattle.serve_words.specs.declared.plan.ServePlan.{ServePlan};
@@ -14,7 +14,7 @@ ghost use Rattle.serve_words.specs.Plans.{plan_in};
 use crate::command::Command;
 use crate::generating::load_run;
 use crate::piping::pipe;
-use crate::rooted::replay;
+use crate::replaying::{audit, replay};
 use crate::serving::serve_named;
 use crate::status::Status;
 use authority_model::{Limits, MAX_BYTES};
@@ -59,6 +59,11 @@ pub fn polkitd<R: Threads + Wait + Sync, T: Tree, N: Station, I: Source, O: Sink
     ensures replay { (root : Option (List ℕ)) (entries : ℕ) → command_of words.now ≡ Some (Named.Replay root entries) →
         ReplaysFrom (T.told tree.old) root (limits_of entries) (T.faults tree.old) (T.faults tree.new) (I.left input.old) (I.left input.new) (I.ended input.new) (O.held output.old) (O.held output.new) result }
 
+    // An audit writes the audit text of the legal history that the whole input makes, as far as the
+    // status says.
+    ensures audit { (root : Option (List ℕ)) (entries : ℕ) → command_of words.now ≡ Some (Named.Audit root entries) →
+        AuditsFrom (T.told tree.old) root (limits_of entries) (T.faults tree.old) (T.faults tree.new) (I.left input.old) (I.left input.new) (I.ended input.new) (O.held output.old) (O.held output.new) result }
+
     // A pipe writes the messages that its connection is sent in the legal history that the bytes read
     // make, as far as the status says. Its clock and its salt are made by the station.
     ensures pipe { (uid : ℕ) (root : List ℕ) (entries : ℕ) → command_of words.now ≡ Some (Named.Pipe uid root entries) →
@@ -91,6 +96,9 @@ pub fn polkitd<R: Threads + Wait + Sync, T: Tree, N: Station, I: Source, O: Sink
     match Command::read(words) {
         Some(Command::Replay { root, entries }) => {
             replay(alloc, root, limits_of(entries), tree, input, output)
+        }
+        Some(Command::Audit { root, entries }) => {
+            audit(alloc, root, limits_of(entries), tree, input, output)
         }
         Some(Command::Pipe { uid, root, entries }) => {
             let limits = limits_of(entries);

@@ -1,15 +1,15 @@
 -- The words name one command, which is the one that runs.
 use Rattle.std.proofs.Common.{Some, ap, ◌∙◌, subst}
 use Rattle.std.specs.Option.{option_copied, option_map}
-use Rattle.polkit_daemon.specs.Commands.{command_seen, limits_of}
+use Rattle.polkit_daemon.specs.Commands.{Beginning, command_seen, limits_of}
 use Rattle.polkit_daemon.specs.Generate.{Generates}
 use Rattle.authority_model.specs.declared.journal.Limits.{Limits}
 use Rattle.pipe_run.specs.Ends.{traffic}
 use Rattle.pipe_run.specs.Supplies.{supply}
 use Rattle.polkit_daemon.specs.Piped.{PipesFrom, PipesMade, Plan}
-use Rattle.polkit_daemon.specs.Rooted.{ReplaysFrom}
+use Rattle.polkit_daemon.specs.Replayed.{AuditsFrom, ReplaysFrom}
 use Rattle.polkit_daemon.proofs.Faults.{generates_reads}
-use Rattle.polkit_daemon.proofs.Loading.{same_checks, same_entries, same_plan, same_root, same_words}
+use Rattle.polkit_daemon.proofs.Loading.{same_audit, same_checks, same_plan, same_replay, same_words}
 use Rattle.polkit_daemon.proofs.Services.{service_reads}
 use Rattle.serve_words.specs.Plans.{plan_in}
 use Rattle.polkit_daemon.proofs.top.polkitd.Goals as goal
@@ -17,14 +17,20 @@ use Rattle.polkit_daemon.proofs.top.polkitd.Goals as goal
 pub returns-in-Some-Replay-clause-replay : goal.returns-in-Some-Replay-clause-replay
 returns-in-Some-Replay-clause-replay g c = λ root entries is.
     let read_is = ap (option_map command_seen) (c.in-Some-Replay.is ∙ ap Some c.in-Some-Replay.field-0-is) in
-    let named = c.read.ensures.command ∙ is in
-    subst (λ r. ReplaysFrom (g.T.Tree.told c.args.tree.now) r (limits_of entries) (g.T.Tree.faults c.args.tree.now) (g.T.Tree.faults c.replay.new.tree) (g.I.Source.left c.args.input.now) (g.I.Source.left c.replay.new.input) (g.I.Source.ended c.replay.new.input) (g.O.Sink.held c.args.output.now) (g.O.Sink.held c.replay.new.output) c.replay.result)
-    (same_root _ _ _ _ _ read_is named)
-    (subst (λ n. ReplaysFrom (g.T.Tree.told c.args.tree.now) (option_copied c.in-Some-Replay.root) (limits_of n) (g.T.Tree.faults c.args.tree.now) (g.T.Tree.faults c.replay.new.tree) (g.I.Source.left c.args.input.now) (g.I.Source.left c.replay.new.input) (g.I.Source.ended c.replay.new.input) (g.O.Sink.held c.args.output.now) (g.O.Sink.held c.replay.new.output) c.replay.result)
-    (same_entries _ _ _ _ _ read_is named)
+    subst (λ (b : Beginning). ReplaysFrom (g.T.Tree.told c.args.tree.now) b.root (limits_of b.entries) (g.T.Tree.faults c.args.tree.now) (g.T.Tree.faults c.replay.new.tree) (g.I.Source.left c.args.input.now) (g.I.Source.left c.replay.new.input) (g.I.Source.ended c.replay.new.input) (g.O.Sink.held c.args.output.now) (g.O.Sink.held c.replay.new.output) c.replay.result)
+    (same_replay _ _ _ _ _ read_is (c.read.ensures.command ∙ is))
     (subst (λ (l : Limits). ReplaysFrom (g.T.Tree.told c.args.tree.now) (option_copied c.in-Some-Replay.root) l (g.T.Tree.faults c.args.tree.now) (g.T.Tree.faults c.replay.new.tree) (g.I.Source.left c.args.input.now) (g.I.Source.left c.replay.new.input) (g.I.Source.ended c.replay.new.input) (g.O.Sink.held c.args.output.now) (g.O.Sink.held c.replay.new.output) c.replay.result)
     c.limits_of.ensures.limits
-    c.replay.ensures.run))
+    c.replay.ensures.run)
+
+pub returns-in-Some-Audit-clause-audit : goal.returns-in-Some-Audit-clause-audit
+returns-in-Some-Audit-clause-audit g c = λ root entries is.
+    let read_is = ap (option_map command_seen) (c.in-Some-Audit.is ∙ ap Some c.in-Some-Audit.field-0-is) in
+    subst (λ (b : Beginning). AuditsFrom (g.T.Tree.told c.args.tree.now) b.root (limits_of b.entries) (g.T.Tree.faults c.args.tree.now) (g.T.Tree.faults c.audit.new.tree) (g.I.Source.left c.args.input.now) (g.I.Source.left c.audit.new.input) (g.I.Source.ended c.audit.new.input) (g.O.Sink.held c.args.output.now) (g.O.Sink.held c.audit.new.output) c.audit.result)
+    (same_audit _ _ _ _ _ read_is (c.read.ensures.command ∙ is))
+    (subst (λ (l : Limits). AuditsFrom (g.T.Tree.told c.args.tree.now) (option_copied c.in-Some-Audit.root) l (g.T.Tree.faults c.args.tree.now) (g.T.Tree.faults c.audit.new.tree) (g.I.Source.left c.args.input.now) (g.I.Source.left c.audit.new.input) (g.I.Source.ended c.audit.new.input) (g.O.Sink.held c.args.output.now) (g.O.Sink.held c.audit.new.output) c.audit.result)
+    c.limits_of-in-Some-Audit.ensures.limits
+    c.audit.ensures.run)
 
 pub returns-in-Some-Load-clause-load : goal.returns-in-Some-Load-clause-load
 returns-in-Some-Load-clause-load g c = λ checks is.

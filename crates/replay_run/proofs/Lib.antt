@@ -1,0 +1,10 @@
+pub mod AuditTexts
+pub mod Entered
+pub mod Exits
+pub mod Faults
+pub mod FirstLoads
+pub mod Grows
+pub mod Leading
+pub mod Runs
+pub mod Texts
+pub mod Told

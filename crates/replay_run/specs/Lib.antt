@@ -1,0 +1,8 @@
+pub mod Audited
+pub mod Counted
+pub mod Faults
+pub mod Lines
+pub mod Playing
+pub mod Replay
+pub mod Rooted
+pub mod Telling

@@ -1,0 +1,19 @@
+//! The run of a scenario, line by line: its answer lines, or the audit text of the journal that it makes.
+//!
+//! What a run makes of its lines is a definition over plain lists (`specs/Replay.antt`). What is
+//! written of it is one choice (`Telling`): the answers of each entry at once, or nothing until the
+//! input has ended.
+#![tactic(auto)]
+
+mod auditing;
+mod ends;
+mod first;
+mod playing;
+mod replaying;
+mod sent_counts;
+mod telling;
+mod written;
+
+pub use auditing::audit;
+pub use ends::ReplayEnd;
+pub use replaying::replay;
