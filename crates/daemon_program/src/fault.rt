@@ -267,10 +267,16 @@ impl<'a> fmt::Display for WordsFault<'a> {
     fn fmt<W: fmt::Write>(&self, f: &mut fmt::Formatter<W>) -> fmt::Result {
         match self {
             WordsFault::NoCommand => {
-                write!(f, "a command is required: replay, audit, pipe, serve or load")
+                write!(
+                    f,
+                    "a command is required: replay, audit, pipe, serve or load"
+                )
             }
             WordsFault::NotACommand { word } => {
-                write!(f, "'{word}' is not a command: replay, audit, pipe, serve or load")
+                write!(
+                    f,
+                    "'{word}' is not a command: replay, audit, pipe, serve or load"
+                )
             }
             WordsFault::Required {
                 part,
