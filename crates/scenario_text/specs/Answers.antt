@@ -43,29 +43,47 @@ cause_text cause = error_last_part cause ++ (codes " " ++ error_word cause)
 abbrev pub action_count : List Loaded → ℕ → ℕ
 action_count loads n = if n == 0 then 0 else option_map_or (λ (loaded : Loaded). length loaded.policy.actions) (slice_get loads (n - 1)) 0
 
--- the words of an answer
-abbrev pub answer_text : List Loaded → Answer → List ℕ
-answer_text loads (answer.Verdict verdict) = verdict_text verdict
-answer_text loads answer.Done = codes "done"
-answer_text loads (answer.Name name) = codes "name " ++ escaped name
-answer_text loads (answer.Actions load locale) = codes "actions " ++ decimal (action_count loads load)
-answer_text loads (answer.Grants rows) = codes "grants " ++ grants_text rows
-answer_text loads (answer.Refused cause) = codes "error " ++ cause_text cause
+-- how many actions the load has that an answer lists, and 0 where it lists none
+abbrev pub answer_actions : List Loaded → Answer → ℕ
+answer_actions loads (answer.Actions load locale) = action_count loads load
+answer_actions loads _ = 0
+
+-- how many actions the load has that a message lists, and 0 where it lists none
+abbrev pub listed_actions : List Loaded → Message → ℕ
+listed_actions loads (message.Reply answered answer) = answer_actions loads answer
+listed_actions loads _ = 0
+
+-- the words of an answer, which lists so many actions where it lists some
+abbrev pub answer_words : ℕ → Answer → List ℕ
+answer_words actions (answer.Verdict verdict) = verdict_text verdict
+answer_words actions answer.Done = codes "done"
+answer_words actions (answer.Name name) = codes "name " ++ escaped name
+answer_words actions (answer.Actions load locale) = codes "actions " ++ decimal actions
+answer_words actions (answer.Grants rows) = codes "grants " ++ grants_text rows
+answer_words actions (answer.Refused cause) = codes "error " ++ cause_text cause
 
 -- two words and what follows them, ended by LF
 abbrev pub words_line : List ℕ → List ℕ → List ℕ → List ℕ
 words_line first second rest = first ++ (codes " " ++ (second ++ (codes " " ++ (rest ++ codes "\n"))))
 
--- the line of a message to a connection, which is the one with this serial among those sent to it
-abbrev pub message_line : List Loaded → ℕ → ℕ → Message → List ℕ
-message_line loads to serial (message.Reply answered answer) = words_line (decimal to) (decimal answered) (answer_text loads answer)
-message_line loads to serial (message.Begin path action text icon details cookie identities) =
+-- the line of a message to a connection, which lists so many actions where it lists some, and is the one with this serial among those sent to it
+abbrev pub counted_line : ℕ → ℕ → ℕ → Message → List ℕ
+counted_line actions to serial (message.Reply answered answer) = words_line (decimal to) (decimal answered) (answer_words actions answer)
+counted_line actions to serial (message.Begin path action text icon details cookie identities) =
     words_line (decimal to) (codes "begin") (decimal serial ++ (codes " " ++ (cookie_text cookie ++ (codes " " ++ (escaped action ++ (codes " " ++ identities_text identities))))))
-message_line loads to serial (message.CancelBegin path cookie) = words_line (decimal to) (codes "end") (cookie_text cookie)
-message_line loads to serial message.Changed = decimal to ++ codes " changed\n"
-message_line loads to serial message.LoadWanted = []
-message_line loads to serial message.StopWanted = []
+counted_line actions to serial (message.CancelBegin path cookie) = words_line (decimal to) (codes "end") (cookie_text cookie)
+counted_line actions to serial message.Changed = decimal to ++ codes " changed\n"
+counted_line actions to serial message.LoadWanted = []
+counted_line actions to serial message.StopWanted = []
 
--- the line of an output, which is the one with this serial among those to its connection
-abbrev pub answer_line : Output → History → ℕ → List ℕ
-answer_line output history serial = message_line history.loads output.to serial output.message
+-- the line of a message to a connection, where these are the loads
+abbrev pub message_line : List Loaded → ℕ → ℕ → Message → List ℕ
+message_line loads to serial message = counted_line (listed_actions loads message) to serial message
+
+-- the line of an output, which lists so many actions where it lists some, and is the one with this serial among those to its connection
+abbrev pub answer_line : Output → ℕ → ℕ → List ℕ
+answer_line output actions serial = counted_line actions output.to serial output.message
+
+-- the line of an output of a history
+abbrev pub output_line : Output → History → ℕ → List ℕ
+output_line output history serial = message_line history.loads output.to serial output.message

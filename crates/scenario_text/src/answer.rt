@@ -3,7 +3,7 @@ ghost use Rattle.std.specs.Prelude.{◌≡◌, ◌++◌, codes, length, string_b
 ghost use Rattle.std.specs.Fmt.{decimal};
 ghost use Rattle.authority_model.specs.Cookies.{cookie_text};
 ghost use Rattle.scenario_text.specs.Escapes.{escaped, identities_text};
-ghost use Rattle.scenario_text.specs.Answers.{action_count, answer_text, words_line, message_line, answer_line};
+ghost use Rattle.scenario_text.specs.Answers.{action_count, listed_actions, answer_words, words_line, counted_line, answer_line, output_line};
 
 use crate::escape::{push_escaped, push_grants, push_identities};
 use crate::verdict::{push_cause, push_verdict};
@@ -24,13 +24,27 @@ fn action_count(loads: &[Loaded], load: u32) -> usize
     }
 }
 
+/// How many actions the load has that a message lists, and 0 where it lists none.
+fn listed_actions(loads: &[Loaded], message: &Message) -> usize
+    ensures count { result ≡ listed_actions loads.now message.now }
+{
+    match message {
+        Message::Reply {
+            serial: _,
+            answer: Answer::Actions { load, locale: _ },
+        } => action_count(loads, *load),
+        _ => 0,
+    }
+}
+
+/// Adds the words of an answer, which lists so many actions where it lists some.
 fn push_answer(
     alloc: Global,
     text: &mut String,
-    loads: &[Loaded],
+    actions: usize,
     answer: &Answer,
 ) -> Result<(), AllocError>
-    ensures ok { OnOk result (string_bytes text.new ≡ string_bytes text.old ++ answer_text loads.now answer.now) }
+    ensures ok { OnOk result (string_bytes text.new ≡ string_bytes text.old ++ answer_words actions answer.now) }
 {
     match answer {
         Answer::Verdict(verdict) => push_verdict(alloc, text, verdict),
@@ -39,10 +53,7 @@ fn push_answer(
             text.push_str("name ")?;
             push_escaped(text, name.bytes())
         }
-        Answer::Actions { load, locale: _ } => {
-            let count = action_count(loads, *load);
-            write!(text, "actions {count}")
-        }
+        Answer::Actions { load: _, locale: _ } => write!(text, "actions {actions}"),
         Answer::Grants(rows) => {
             text.push_str("grants ")?;
             push_grants(text, rows.as_slice())
@@ -57,15 +68,15 @@ fn push_answer(
 fn push_reply(
     alloc: Global,
     text: &mut String,
-    loads: &[Loaded],
+    actions: usize,
     to: u32,
     serial: u32,
     answer: &Answer,
 ) -> Result<(), AllocError>
-    ensures ok { OnOk result (string_bytes text.new ≡ string_bytes text.old ++ words_line (decimal to) (decimal serial) (answer_text loads.now answer.now)) }
+    ensures ok { OnOk result (string_bytes text.new ≡ string_bytes text.old ++ words_line (decimal to) (decimal serial) (answer_words actions answer.now)) }
 {
     write!(text, "{to} {serial} ")?;
-    push_answer(alloc, text, loads, answer)?;
+    push_answer(alloc, text, actions, answer)?;
     text.push_str("\n")
 }
 
@@ -118,22 +129,22 @@ fn push_end(text: &mut String, to: u32, cookie: Cookie) -> Result<(), AllocError
 }
 
 /// Adds the line of a message to a connection, which is the one with this serial among those sent to
-/// it.
+/// it, and lists so many actions where it lists some.
 fn push_message(
     alloc: Global,
     text: &mut String,
-    loads: &[Loaded],
+    actions: usize,
     to: u32,
     serial: u32,
     message: &Message,
 ) -> Result<(), AllocError>
-    ensures ok { OnOk result (string_bytes text.new ≡ string_bytes text.old ++ message_line loads.now to serial message.now) }
+    ensures ok { OnOk result (string_bytes text.new ≡ string_bytes text.old ++ counted_line actions to serial message.now) }
 {
     match message {
         Message::Reply {
             serial: answered,
             answer,
-        } => push_reply(alloc, text, loads, to, *answered, answer),
+        } => push_reply(alloc, text, actions, to, *answered, answer),
         Message::Begin {
             path: _,
             action,
@@ -150,7 +161,47 @@ fn push_message(
     }
 }
 
-/// The line of an output, ended by LF. `serial` is its number among the outputs to its
+/// The line of an output, which lists so many actions where it lists some.
+fn line_of(
+    alloc: Global,
+    output: &Output,
+    actions: usize,
+    serial: u32,
+) -> Result<ByteList, NoMemory>
+    ensures line { IfOk result (λ line. line ≡ answer_line output.now actions serial) }
+{
+    let mut line = String::new(alloc);
+    push_message(
+        alloc,
+        &mut line,
+        actions,
+        output.to,
+        serial,
+        &output.message,
+    )?;
+    Ok(List::from_vec(line.into_bytes()))
+}
+
+/// The line of an output, ended by LF, where the load whose actions it lists has so many of them.
+/// `serial` is its number among the outputs to its connection, counted from 1, which
+/// BeginAuthentication shows. An output that lists no actions has the same line for each number.
+///
+/// A request to the loader has no bytes.
+///
+/// # Errors
+/// `NoMemory` alone.
+pub fn answer_line(
+    alloc: Global,
+    output: &Output,
+    actions: u32,
+    serial: u32,
+) -> Result<ByteList, NoMemory>
+    ensures line { IfOk result (λ line. line ≡ answer_line output.now actions serial) }
+{
+    line_of(alloc, output, actions as usize, serial)
+}
+
+/// The line of an output of a history, ended by LF. `serial` is its number among the outputs to its
 /// connection, counted from 1, which BeginAuthentication shows.
 ///
 /// A request to the loader has no bytes.
@@ -163,16 +214,8 @@ pub fn answer_text(
     history: &History,
     serial: u32,
 ) -> Result<ByteList, NoMemory>
-    ensures line { IfOk result (λ line. line ≡ answer_line output.now history.now serial) }
+    ensures line { IfOk result (λ line. line ≡ output_line output.now history.now serial) }
 {
-    let mut line = String::new(alloc);
-    push_message(
-        alloc,
-        &mut line,
-        history.loads.as_slice(),
-        output.to,
-        serial,
-        &output.message,
-    )?;
-    Ok(List::from_vec(line.into_bytes()))
+    let actions = listed_actions(history.loads.as_slice(), &output.message);
+    line_of(alloc, output, actions, serial)
 }

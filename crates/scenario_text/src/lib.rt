@@ -18,7 +18,7 @@ mod subjects;
 mod verdict;
 mod words;
 
-pub use answer::answer_text;
+pub use answer::{answer_line, answer_text};
 pub use fault::{LineFault, LineKind};
 pub use lines::{MAX_LINE, read_line};
 pub use skipped::skipped_text;
