@@ -13,3 +13,7 @@ IsFront front text = (rest : List ℕ) × (text ≡ front ++ rest)
 -- Any text is allowed.
 abbrev pub IsFree : (List ℕ → Type 0) → Type 0
 IsFree Allowed = (text : List ℕ) → Allowed text
+
+-- Each prefix of the text may be written where this is held.
+abbrev pub MayFronts : (List ℕ → Type 0) → Option (List ℕ) → List ℕ → Type 0
+MayFronts Allowed held text = (front : List ℕ) → IsFront front text → MayGo Allowed held front
