@@ -1,9 +1,9 @@
 /* Sends calls over the connections of a Unix socket, and times the answers:
 
-     serve_load SOCKET UID CONNECTIONS CALLS CALL ANSWER
+     serve_load SOCKET UID CONNECTIONS CALLS CALL ANSWER [PAUSE]
 
    CALL is a file with one call, whose serial is set anew for each. Each connection has a thread, which sends a call when the one before
-   it is answered. The last answer is written to the file ANSWER. Printed are the seconds of all, and the 50th and the 99th percentile of
+   it is answered, and PAUSE microseconds have gone by. The last answer is written to the file ANSWER. Printed are the seconds of all, and the 50th and the 99th percentile of
    the time of a call in microseconds. */
 #include <errno.h>
 #include <pthread.h>
@@ -19,7 +19,7 @@
 enum { ROOM = 1 << 16 };
 
 static const char *path;
-static int uid, calls;
+static int uid, calls, pause_us;
 static unsigned char call[ROOM], answer[ROOM];
 static size_t call_size, answer_size;
 static pthread_mutex_t answered = PTHREAD_MUTEX_INITIALIZER;
@@ -105,6 +105,7 @@ static void *talk(void *mine) {
     send_all(fd, text, call_size);
     size = receive_answer(fd, reply);
     took[k] = now() - from;
+    if (pause_us) usleep(pause_us);
   }
   close(fd);
   pthread_mutex_lock(&answered);
@@ -121,13 +122,14 @@ static int order(const void *a, const void *b) {
 }
 
 int main(int n, char **words) {
-  if (n != 7) {
-    fprintf(stderr, "usage: serve_load SOCKET UID CONNECTIONS CALLS CALL ANSWER\n");
+  if (n != 7 && n != 8) {
+    fprintf(stderr, "usage: serve_load SOCKET UID CONNECTIONS CALLS CALL ANSWER [PAUSE]\n");
     return 2;
   }
   path = words[1];
   uid = atoi(words[2]);
   calls = atoi(words[4]);
+  pause_us = n == 8 ? atoi(words[7]) : 0;
   int connections = atoi(words[3]);
   FILE *file = fopen(words[5], "rb");
   if (!file) fail(words[5]);
