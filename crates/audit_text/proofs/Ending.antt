@@ -1,10 +1,9 @@
 -- The end of an input, and what all of its bytes are read as.
-use Rattle.std.proofs.Common.{◌≡◌, ◌≢◌, ◌≤◌, ◌<◌, ◌+◌, ◌⊎◌, ℕ, Bool, true, false, IsTrue, nat_lt, cond, List, [], ◌∷◌, ◌++◌, Option, Result, Ok, Err, refl, sym, ap, subst, ◌∙◌, append_assoc, inl, inr, arith}
-use Rattle.std.specs.Prelude.{IfErr}
+use Rattle.std.proofs.Common.{◌≡◌, ◌≢◌, ◌≤◌, ◌<◌, ℕ, Bool, true, false, IsTrue, nat_lt, cond, List, ◌∷◌, ◌++◌, Result, Ok, Err, refl, sym, ap, subst, ◌∙◌, append_assoc, inl, inr, arith}
 use Rattle.std.proofs.lemmas.Bool.Decides.{nat_tests}
 use Rattle.pk_outside.specs.Causes.{Rose}
 use Rattle.pk_outside.specs.Streams.{Gave}
-use Rattle.pk_outside.proofs.Written.{Gave-none, Gave-more}
+use Rattle.pk_outside.proofs.Written.{Gave-more}
 use Rattle.authority_model.specs.declared.journal.History.{History}
 use Rattle.audit_text.specs.declared.fault.LineKind.{LineKind}
 use Rattle.audit_text.specs.declared.fault.LineKind.TheVariants as kind
@@ -16,7 +15,6 @@ use Rattle.audit_text.specs.declared.heads.TextHead.{TextHead}
 use Rattle.audit_text.specs.declared.reading.TheConstants.{MAX_ENTRIES}
 use Rattle.audit_text.specs.Lines.{Place, Reading, take_parts}
 use Rattle.audit_text.specs.Audit.{history_headed, all_lines, of_lines, unless_many}
-use Rattle.audit_text.specs.Outcomes.{OnJudged}
 use Rattle.audit_text.specs.Reads.{GivesHistory}
 use Rattle.audit_text.specs.Takes.{Stand, place_at, Takes, IsLeft, Closes, IsClosed, Refuses, HasReadCause, Ends}
 use Rattle.audit_text.proofs.Readings.{on_judged}

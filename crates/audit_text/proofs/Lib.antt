@@ -7,3 +7,5 @@ pub mod Readings
 pub mod Taking
 pub mod Ending
 pub mod Sections
+pub mod Measures
+pub mod Written

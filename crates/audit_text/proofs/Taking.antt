@@ -1,12 +1,11 @@
 -- Lines that are taken from a source, one after the other.
-use Rattle.std.proofs.Common.{◌≡◌, ◌≢◌, ◌≤◌, ◌<◌, ◌+◌, ◌-◌, ◌⊎◌, ℕ, suc, Bool, true, false, IsTrue, List, [], ◌∷◌, ◌++◌, length, Option, Some, None, Result, Ok, Err, refl, sym, ap, subst, ◌∙◌, append_assoc, append-nil, inl, inr, arith}
+use Rattle.std.proofs.Common.{◌≡◌, ◌≢◌, ◌≤◌, ◌<◌, ◌+◌, ◌-◌, ℕ, suc, false, IsTrue, List, [], ◌∷◌, ◌++◌, length, Option, Result, Ok, Err, refl, sym, ap, subst, ◌∙◌, append_assoc, append-nil, inl, inr, arith}
 use Rattle.pk_types.specs.Pieces.{Lacks, pieces_of}
 use Rattle.std.specs.Result.{IsErrAnd}
 use Rattle.std.specs.Str.{bytes_eq}
 use Rattle.pk_outside.specs.Causes.{Rose, FailsLast, one_more as one_more_fault}
 use Rattle.pk_outside.specs.Streams.{Gave}
 use Rattle.pk_outside.proofs.Written.{Gave-none, Gave-more}
-use Rattle.authority_model.specs.declared.journal.History.{History}
 use Rattle.source_buffer.specs.Reading as of_buffer
 use Rattle.audit_words.specs.declared.fault.Kind.{Kind}
 use Rattle.audit_words.specs.declared.fault.Kind.TheVariants as of_words
@@ -16,13 +15,10 @@ use Rattle.audit_words.proofs.Cutting.{separator_at, no_separator}
 use Rattle.audit_words.proofs.Tests.{chosen}
 use Rattle.audit_text.specs.declared.fault.LineKind.{LineKind}
 use Rattle.audit_text.specs.declared.fault.LineKind.TheVariants as kind
-use Rattle.audit_text.specs.declared.fault.LineStop.{LineStop}
-use Rattle.audit_text.specs.declared.fault.LineStop.TheVariants as of_line
 use Rattle.audit_text.specs.declared.fault.Stop.{Stop}
 use Rattle.audit_text.specs.declared.fault.Stop.TheVariants as stops
 use Rattle.audit_text.specs.Lines.{Place, Reading, ◌then◌, LineCodec, ◌↵◌, Headed, headed, take_parts, take_items, take_line, on_line, of_whole, value_of, line}
-use Rattle.audit_text.specs.Reads.{LineGives}
-use Rattle.audit_text.specs.Takes.{Stand, stand, place_at, IfEnd, GivesAt, HasStopCause, Takes, IsLine, IsNoLine, LineAt, TakesLine, LeftAt, IsLeft}
+use Rattle.audit_text.specs.Takes.{Stand, place_at, IfEnd, GivesAt, HasStopCause, Takes, IsLine, TakesLine, IsLeft}
 use Rattle.audit_text.proofs.Loops.{with_front, goes_on, is_done, starts, one_more}
 
 pub rose_later : (a b c : ℕ) → a ≤ b → Rose b c → Rose a c

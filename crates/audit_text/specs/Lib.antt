@@ -5,3 +5,4 @@ pub mod Outcomes
 pub mod Reads
 pub mod Takes
 pub mod Pieces
+pub mod Writes

@@ -1,12 +1,11 @@
 // The lines that tell how many others follow.
 ghost use Rattle.std.specs.Prelude.{◌≡◌};
 ghost use Rattle.audit_words.specs.Reads.{Gives};
-ghost use Rattle.audit_text.specs.Audit.{load_head, load_head_of, text_head, version};
+ghost use Rattle.audit_text.specs.Audit.{load_head, load_head_of, text_head, history_headed, version};
 
 use audit_values::Spell;
-use audit_words::{Kind, Stop, Words, push_number, push_plain};
-use authority_model::Loaded;
-use pk_types::NoMemory;
+use audit_words::{Kind, LineBuffer, Stop, Words, put_number, put_plain};
+use authority_model::{History, Loaded};
 
 /// How many lines a load has of each kind.
 #[derive(Clone, Copy)]
@@ -46,19 +45,31 @@ impl LoadHead {
     }
 }
 
+impl TextHead {
+    /// The lengths of a history.
+    pub fn of(history: &History) -> TextHead
+        ensures head { result ≡ history_headed.head_of history.now }
+    {
+        TextHead {
+            loads: history.loads.len() as u64,
+            entries: history.entries.len() as u64,
+        }
+    }
+}
+
 impl Spell for LoadHead {
     ghost codec = { load_head };
 
-    #[tactic(auto, using(audit_words::proofs::Written::write_rules))]
-    fn push_words(&self, line: &mut Vec<u8>) -> Result<(), NoMemory> {
-        push_number(line, self.actions)?;
-        push_number(line, self.rules)?;
-        push_number(line, self.admins)?;
-        push_number(line, self.users)?;
-        push_number(line, self.groups)?;
-        push_number(line, self.sessions)?;
-        push_number(line, self.processes)?;
-        push_number(line, self.faults)
+    #[tactic(auto, using(audit_words::proofs::Putting::put_rules))]
+    fn put_words(&self, line: &mut LineBuffer) {
+        put_number(line, self.actions);
+        put_number(line, self.rules);
+        put_number(line, self.admins);
+        put_number(line, self.users);
+        put_number(line, self.groups);
+        put_number(line, self.sessions);
+        put_number(line, self.processes);
+        put_number(line, self.faults);
     }
 
     fn take_from(words: &mut Words) -> Result<LoadHead, Stop> {
@@ -98,11 +109,11 @@ fn take_version(words: &mut Words) -> Result<(), Stop>
 impl Spell for TextHead {
     ghost codec = { text_head };
 
-    #[tactic(auto, using(audit_words::proofs::Written::write_rules))]
-    fn push_words(&self, line: &mut Vec<u8>) -> Result<(), NoMemory> {
-        push_plain(line, b"1")?;
-        push_number(line, self.loads)?;
-        push_number(line, self.entries)
+    #[tactic(auto, using(audit_words::proofs::Putting::put_rules))]
+    fn put_words(&self, line: &mut LineBuffer) {
+        put_plain(line, b"1");
+        put_number(line, self.loads);
+        put_number(line, self.entries);
     }
 
     fn take_from(words: &mut Words) -> Result<TextHead, Stop> {

@@ -8,7 +8,9 @@ mod fault;
 mod heads;
 mod lines;
 mod loads;
+mod measuring;
 mod pieces;
+mod putting;
 mod reading;
 mod writing;
 

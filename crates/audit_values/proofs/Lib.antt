@@ -5,4 +5,3 @@ pub mod AnswersLaws
 pub mod EventsLaws
 pub mod EntriesLaws
 pub mod Labels
-pub mod Pushed

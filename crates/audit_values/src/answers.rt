@@ -4,26 +4,26 @@ ghost use Rattle.audit_words.specs.Codecs.{named_in};
 ghost use Rattle.audit_values.specs.Answers.{key, reason, verdict, grant_row, error_cause, error_cause_name, error_cause_names, answer};
 
 use crate::spell::Spell;
-use audit_words::{Kind, Stop, Words, push_plain};
+use audit_words::{Kind, LineBuffer, Stop, Words, put_plain};
 use authority_model::{Answer, ErrorCause, GrantRow, Key, Reason, Verdict};
-use pk_types::{Category, List, NoMemory};
+use pk_types::{Category, List};
 
 impl Spell for Key {
     ghost codec = { key };
 
-    #[tactic(auto, using(audit_words::proofs::Written::write_rules))]
-    fn push_words(&self, line: &mut Vec<u8>) -> Result<(), NoMemory> {
+    #[tactic(auto, using(audit_words::proofs::Putting::put_rules))]
+    fn put_words(&self, line: &mut LineBuffer) {
         match self {
             Key::Process { pid, start, uid } => {
-                push_plain(line, b"Process")?;
-                pid.push_words(line)?;
-                start.push_words(line)?;
-                uid.push_words(line)
+                put_plain(line, b"Process");
+                pid.put_words(line);
+                start.put_words(line);
+                uid.put_words(line);
             }
             Key::Session { id, uid } => {
-                push_plain(line, b"Session")?;
-                id.push_words(line)?;
-                uid.push_words(line)
+                put_plain(line, b"Session");
+                id.put_words(line);
+                uid.put_words(line);
             }
         }
     }
@@ -48,32 +48,32 @@ impl Spell for Key {
 impl Spell for Reason {
     ghost codec = { reason };
 
-    #[tactic(auto, using(audit_words::proofs::Written::write_rules))]
-    fn push_words(&self, line: &mut Vec<u8>) -> Result<(), NoMemory> {
+    #[tactic(auto, using(audit_words::proofs::Putting::put_rules))]
+    fn put_words(&self, line: &mut LineBuffer) {
         match self {
-            Reason::Root => push_plain(line, b"Root"),
+            Reason::Root => put_plain(line, b"Root"),
             Reason::Default(category) => {
-                push_plain(line, b"Default")?;
-                category.push_words(line)
+                put_plain(line, b"Default");
+                category.put_words(line);
             }
             Reason::Entry(number) => {
-                push_plain(line, b"Entry")?;
-                number.push_words(line)
+                put_plain(line, b"Entry");
+                number.put_words(line);
             }
             Reason::Grant(number) => {
-                push_plain(line, b"Grant")?;
-                number.push_words(line)
+                put_plain(line, b"Grant");
+                number.put_words(line);
             }
             Reason::Imply(text) => {
-                push_plain(line, b"Imply")?;
-                text.push_words(line)
+                put_plain(line, b"Imply");
+                text.put_words(line);
             }
-            Reason::Challenge => push_plain(line, b"Challenge"),
-            Reason::Dismissed => push_plain(line, b"Dismissed"),
-            Reason::AgentGone => push_plain(line, b"AgentGone"),
-            Reason::SubjectGone => push_plain(line, b"SubjectGone"),
-            Reason::ActionGone => push_plain(line, b"ActionGone"),
-            Reason::IdentityGone => push_plain(line, b"IdentityGone"),
+            Reason::Challenge => put_plain(line, b"Challenge"),
+            Reason::Dismissed => put_plain(line, b"Dismissed"),
+            Reason::AgentGone => put_plain(line, b"AgentGone"),
+            Reason::SubjectGone => put_plain(line, b"SubjectGone"),
+            Reason::ActionGone => put_plain(line, b"ActionGone"),
+            Reason::IdentityGone => put_plain(line, b"IdentityGone"),
         }
     }
 
@@ -114,14 +114,14 @@ impl Spell for Reason {
 impl Spell for Verdict {
     ghost codec = { verdict };
 
-    #[tactic(auto, using(audit_words::proofs::Written::write_rules))]
-    fn push_words(&self, line: &mut Vec<u8>) -> Result<(), NoMemory> {
-        self.yes.push_words(line)?;
-        self.challenge.push_words(line)?;
-        self.reason.push_words(line)?;
-        self.keep.push_words(line)?;
-        self.grant.push_words(line)?;
-        self.pairs.push_words(line)
+    #[tactic(auto, using(audit_words::proofs::Putting::put_rules))]
+    fn put_words(&self, line: &mut LineBuffer) {
+        self.yes.put_words(line);
+        self.challenge.put_words(line);
+        self.reason.put_words(line);
+        self.keep.put_words(line);
+        self.grant.put_words(line);
+        self.pairs.put_words(line);
     }
 
     fn take_from(words: &mut Words) -> Result<Verdict, Stop> {
@@ -145,13 +145,13 @@ impl Spell for Verdict {
 impl Spell for GrantRow {
     ghost codec = { grant_row };
 
-    #[tactic(auto, using(audit_words::proofs::Written::write_rules))]
-    fn push_words(&self, line: &mut Vec<u8>) -> Result<(), NoMemory> {
-        self.id.push_words(line)?;
-        self.action.push_words(line)?;
-        self.key.push_words(line)?;
-        self.obtained.push_words(line)?;
-        self.expires.push_words(line)
+    #[tactic(auto, using(audit_words::proofs::Putting::put_rules))]
+    fn put_words(&self, line: &mut LineBuffer) {
+        self.id.put_words(line);
+        self.action.put_words(line);
+        self.key.put_words(line);
+        self.obtained.put_words(line);
+        self.expires.put_words(line);
     }
 
     fn take_from(words: &mut Words) -> Result<GrantRow, Stop> {
@@ -244,8 +244,8 @@ fn error_cause_named(name: &[u8]) -> Option<ErrorCause>
 impl Spell for ErrorCause {
     ghost codec = { error_cause };
 
-    fn push_words(&self, line: &mut Vec<u8>) -> Result<(), NoMemory> {
-        push_plain(line, error_cause_name(*self).as_bytes())
+    fn put_words(&self, line: &mut LineBuffer) {
+        put_plain(line, error_cause_name(*self).as_bytes());
     }
 
     fn take_from(words: &mut Words) -> Result<ErrorCause, Stop> {
@@ -259,30 +259,30 @@ impl Spell for ErrorCause {
 impl Spell for Answer {
     ghost codec = { answer };
 
-    #[tactic(auto, using(audit_words::proofs::Written::write_rules))]
-    fn push_words(&self, line: &mut Vec<u8>) -> Result<(), NoMemory> {
+    #[tactic(auto, using(audit_words::proofs::Putting::put_rules))]
+    fn put_words(&self, line: &mut LineBuffer) {
         match self {
             Answer::Verdict(verdict) => {
-                push_plain(line, b"Verdict")?;
-                verdict.push_words(line)
+                put_plain(line, b"Verdict");
+                verdict.put_words(line);
             }
-            Answer::Done => push_plain(line, b"Done"),
+            Answer::Done => put_plain(line, b"Done"),
             Answer::Name(text) => {
-                push_plain(line, b"Name")?;
-                text.push_words(line)
+                put_plain(line, b"Name");
+                text.put_words(line);
             }
             Answer::Actions { load, locale } => {
-                push_plain(line, b"Actions")?;
-                load.push_words(line)?;
-                locale.push_words(line)
+                put_plain(line, b"Actions");
+                load.put_words(line);
+                locale.put_words(line);
             }
             Answer::Grants(rows) => {
-                push_plain(line, b"Grants")?;
-                rows.push_words(line)
+                put_plain(line, b"Grants");
+                rows.put_words(line);
             }
             Answer::Refused(cause) => {
-                push_plain(line, b"Refused")?;
-                cause.push_words(line)
+                put_plain(line, b"Refused");
+                cause.put_words(line);
             }
         }
     }

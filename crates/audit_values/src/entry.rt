@@ -2,20 +2,20 @@
 ghost use Rattle.audit_values.specs.Entries.{message, output, entry};
 
 use crate::spell::Spell;
-use audit_words::{Kind, Stop, Words, push_plain};
+use audit_words::{Kind, LineBuffer, Stop, Words, put_plain};
 use authority_model::{Answer, Entry, Event, Message, Output};
-use pk_types::{List, NoMemory};
+use pk_types::List;
 
 impl Spell for Message {
     ghost codec = { message };
 
-    #[tactic(auto, using(audit_words::proofs::Written::write_rules))]
-    fn push_words(&self, line: &mut Vec<u8>) -> Result<(), NoMemory> {
+    #[tactic(auto, using(audit_words::proofs::Putting::put_rules))]
+    fn put_words(&self, line: &mut LineBuffer) {
         match self {
             Message::Reply { serial, answer } => {
-                push_plain(line, b"Reply")?;
-                serial.push_words(line)?;
-                answer.push_words(line)
+                put_plain(line, b"Reply");
+                serial.put_words(line);
+                answer.put_words(line);
             }
             Message::Begin {
                 path,
@@ -26,23 +26,23 @@ impl Spell for Message {
                 cookie,
                 identities,
             } => {
-                push_plain(line, b"Begin")?;
-                path.push_words(line)?;
-                action.push_words(line)?;
-                text.push_words(line)?;
-                icon.push_words(line)?;
-                details.push_words(line)?;
-                cookie.push_words(line)?;
-                identities.push_words(line)
+                put_plain(line, b"Begin");
+                path.put_words(line);
+                action.put_words(line);
+                text.put_words(line);
+                icon.put_words(line);
+                details.put_words(line);
+                cookie.put_words(line);
+                identities.put_words(line);
             }
             Message::CancelBegin { path, cookie } => {
-                push_plain(line, b"CancelBegin")?;
-                path.push_words(line)?;
-                cookie.push_words(line)
+                put_plain(line, b"CancelBegin");
+                path.put_words(line);
+                cookie.put_words(line);
             }
-            Message::Changed => push_plain(line, b"Changed"),
-            Message::LoadWanted => push_plain(line, b"LoadWanted"),
-            Message::StopWanted => push_plain(line, b"StopWanted"),
+            Message::Changed => put_plain(line, b"Changed"),
+            Message::LoadWanted => put_plain(line, b"LoadWanted"),
+            Message::StopWanted => put_plain(line, b"StopWanted"),
         }
     }
 
@@ -88,10 +88,10 @@ impl Spell for Message {
 impl Spell for Output {
     ghost codec = { output };
 
-    #[tactic(auto, using(audit_words::proofs::Written::write_rules))]
-    fn push_words(&self, line: &mut Vec<u8>) -> Result<(), NoMemory> {
-        self.to.push_words(line)?;
-        self.message.push_words(line)
+    #[tactic(auto, using(audit_words::proofs::Putting::put_rules))]
+    fn put_words(&self, line: &mut LineBuffer) {
+        self.to.put_words(line);
+        self.message.put_words(line);
     }
 
     fn take_from(words: &mut Words) -> Result<Output, Stop> {
@@ -104,13 +104,13 @@ impl Spell for Output {
 impl Spell for Entry {
     ghost codec = { entry };
 
-    #[tactic(auto, using(audit_words::proofs::Written::write_rules))]
-    fn push_words(&self, line: &mut Vec<u8>) -> Result<(), NoMemory> {
-        self.caller.push_words(line)?;
-        self.moment.push_words(line)?;
-        self.salt.push_words(line)?;
-        self.event.push_words(line)?;
-        self.outputs.push_words(line)
+    #[tactic(auto, using(audit_words::proofs::Putting::put_rules))]
+    fn put_words(&self, line: &mut LineBuffer) {
+        self.caller.put_words(line);
+        self.moment.put_words(line);
+        self.salt.put_words(line);
+        self.event.put_words(line);
+        self.outputs.put_words(line);
     }
 
     fn take_from(words: &mut Words) -> Result<Entry, Stop> {

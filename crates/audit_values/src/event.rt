@@ -2,20 +2,20 @@
 ghost use Rattle.audit_values.specs.Events.{call, event};
 
 use crate::spell::Spell;
-use audit_words::{Kind, Stop, Words, push_plain};
+use audit_words::{Kind, LineBuffer, Stop, Words, put_plain};
 use authority_model::{Call, ErrorCause, Event};
-use pk_types::{Identity, List, NoMemory, Subject};
+use pk_types::{Identity, List, Subject};
 
 impl Spell for Call {
     ghost codec = { call };
 
-    #[tactic(auto, using(audit_words::proofs::Written::write_rules))]
-    fn push_words(&self, line: &mut Vec<u8>) -> Result<(), NoMemory> {
+    #[tactic(auto, using(audit_words::proofs::Putting::put_rules))]
+    fn put_words(&self, line: &mut LineBuffer) {
         match self {
             Call::Announce { pid, start } => {
-                push_plain(line, b"Announce")?;
-                pid.push_words(line)?;
-                start.push_words(line)
+                put_plain(line, b"Announce");
+                pid.put_words(line);
+                start.put_words(line);
             }
             Call::Check {
                 subject,
@@ -24,57 +24,57 @@ impl Spell for Call {
                 flags,
                 cancel,
             } => {
-                push_plain(line, b"Check")?;
-                subject.push_words(line)?;
-                action.push_words(line)?;
-                details.push_words(line)?;
-                flags.push_words(line)?;
-                cancel.push_words(line)
+                put_plain(line, b"Check");
+                subject.put_words(line);
+                action.put_words(line);
+                details.put_words(line);
+                flags.put_words(line);
+                cancel.put_words(line);
             }
             Call::Cancel { cancel } => {
-                push_plain(line, b"Cancel")?;
-                cancel.push_words(line)
+                put_plain(line, b"Cancel");
+                cancel.put_words(line);
             }
             Call::Register {
                 subject,
                 locale,
                 path,
             } => {
-                push_plain(line, b"Register")?;
-                subject.push_words(line)?;
-                locale.push_words(line)?;
-                path.push_words(line)
+                put_plain(line, b"Register");
+                subject.put_words(line);
+                locale.put_words(line);
+                path.put_words(line);
             }
             Call::Unregister { subject, path } => {
-                push_plain(line, b"Unregister")?;
-                subject.push_words(line)?;
-                path.push_words(line)
+                put_plain(line, b"Unregister");
+                subject.put_words(line);
+                path.put_words(line);
             }
             Call::Respond { cookie, identity } => {
-                push_plain(line, b"Respond")?;
-                cookie.push_words(line)?;
-                identity.push_words(line)
+                put_plain(line, b"Respond");
+                cookie.put_words(line);
+                identity.put_words(line);
             }
             Call::EnumerateActions { locale } => {
-                push_plain(line, b"EnumerateActions")?;
-                locale.push_words(line)
+                put_plain(line, b"EnumerateActions");
+                locale.put_words(line);
             }
             Call::EnumerateGrants { subject } => {
-                push_plain(line, b"EnumerateGrants")?;
-                subject.push_words(line)
+                put_plain(line, b"EnumerateGrants");
+                subject.put_words(line);
             }
             Call::RevokeAll { subject } => {
-                push_plain(line, b"RevokeAll")?;
-                subject.push_words(line)
+                put_plain(line, b"RevokeAll");
+                subject.put_words(line);
             }
             Call::RevokeOne { id } => {
-                push_plain(line, b"RevokeOne")?;
-                id.push_words(line)
+                put_plain(line, b"RevokeOne");
+                id.put_words(line);
             }
-            Call::Reload => push_plain(line, b"Reload"),
+            Call::Reload => put_plain(line, b"Reload"),
             Call::Wrong { cause } => {
-                push_plain(line, b"Wrong")?;
-                cause.push_words(line)
+                put_plain(line, b"Wrong");
+                cause.put_words(line);
             }
         }
     }
@@ -144,46 +144,46 @@ impl Spell for Call {
 impl Spell for Event {
     ghost codec = { event };
 
-    #[tactic(auto, using(audit_words::proofs::Written::write_rules))]
-    fn push_words(&self, line: &mut Vec<u8>) -> Result<(), NoMemory> {
+    #[tactic(auto, using(audit_words::proofs::Putting::put_rules))]
+    fn put_words(&self, line: &mut LineBuffer) {
         match self {
             Event::Connect { uid } => {
-                push_plain(line, b"Connect")?;
-                uid.push_words(line)
+                put_plain(line, b"Connect");
+                uid.put_words(line);
             }
             Event::Call {
                 serial,
                 quiet,
                 call,
             } => {
-                push_plain(line, b"Call")?;
-                serial.push_words(line)?;
-                quiet.push_words(line)?;
-                call.push_words(line)
+                put_plain(line, b"Call");
+                serial.put_words(line);
+                quiet.put_words(line);
+                call.put_words(line);
             }
             Event::Returned { serial } => {
-                push_plain(line, b"Returned")?;
-                serial.push_words(line)
+                put_plain(line, b"Returned");
+                serial.put_words(line);
             }
             Event::AgentError { serial, name } => {
-                push_plain(line, b"AgentError")?;
-                serial.push_words(line)?;
-                name.push_words(line)
+                put_plain(line, b"AgentError");
+                serial.put_words(line);
+                name.put_words(line);
             }
-            Event::Passed => push_plain(line, b"Passed"),
-            Event::Depart => push_plain(line, b"Depart"),
+            Event::Passed => put_plain(line, b"Passed"),
+            Event::Depart => put_plain(line, b"Depart"),
             Event::Load { load } => {
-                push_plain(line, b"Load")?;
-                load.push_words(line)
+                put_plain(line, b"Load");
+                load.put_words(line);
             }
             Event::LoadFailed { code } => {
-                push_plain(line, b"LoadFailed")?;
-                code.push_words(line)
+                put_plain(line, b"LoadFailed");
+                code.put_words(line);
             }
-            Event::Stop => push_plain(line, b"Stop"),
+            Event::Stop => put_plain(line, b"Stop"),
             Event::Collect { of } => {
-                push_plain(line, b"Collect")?;
-                of.push_words(line)
+                put_plain(line, b"Collect");
+                of.put_words(line);
             }
         }
     }

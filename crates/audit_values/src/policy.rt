@@ -2,17 +2,17 @@
 ghost use Rattle.audit_values.specs.Policies.{localized, action, rule_entry, file_fault};
 
 use crate::spell::Spell;
-use audit_words::{Stop, Words};
+use audit_words::{LineBuffer, Stop, Words};
 use authority_model::{Action, FileFault, Localized, RuleEntry};
-use pk_types::{Implicit, List, NoMemory};
+use pk_types::{Implicit, List};
 
 impl Spell for Localized {
     ghost codec = { localized };
 
-    #[tactic(auto, using(audit_words::proofs::Written::write_rules))]
-    fn push_words(&self, line: &mut Vec<u8>) -> Result<(), NoMemory> {
-        self.lang.push_words(line)?;
-        self.text.push_words(line)
+    #[tactic(auto, using(audit_words::proofs::Putting::put_rules))]
+    fn put_words(&self, line: &mut LineBuffer) {
+        self.lang.put_words(line);
+        self.text.put_words(line);
     }
 
     fn take_from(words: &mut Words) -> Result<Localized, Stop> {
@@ -25,18 +25,18 @@ impl Spell for Localized {
 impl Spell for Action {
     ghost codec = { action };
 
-    #[tactic(auto, using(audit_words::proofs::Written::write_rules))]
-    fn push_words(&self, line: &mut Vec<u8>) -> Result<(), NoMemory> {
-        self.id.push_words(line)?;
-        self.descriptions.push_words(line)?;
-        self.messages.push_words(line)?;
-        self.vendor.push_words(line)?;
-        self.vendor_url.push_words(line)?;
-        self.icon.push_words(line)?;
-        self.any.push_words(line)?;
-        self.inactive.push_words(line)?;
-        self.active.push_words(line)?;
-        self.annotations.push_words(line)
+    #[tactic(auto, using(audit_words::proofs::Putting::put_rules))]
+    fn put_words(&self, line: &mut LineBuffer) {
+        self.id.put_words(line);
+        self.descriptions.put_words(line);
+        self.messages.put_words(line);
+        self.vendor.put_words(line);
+        self.vendor_url.put_words(line);
+        self.icon.put_words(line);
+        self.any.put_words(line);
+        self.inactive.put_words(line);
+        self.active.put_words(line);
+        self.annotations.put_words(line);
     }
 
     fn take_from(words: &mut Words) -> Result<Action, Stop> {
@@ -68,14 +68,14 @@ impl Spell for Action {
 impl Spell for RuleEntry {
     ghost codec = { rule_entry };
 
-    #[tactic(auto, using(audit_words::proofs::Written::write_rules))]
-    fn push_words(&self, line: &mut Vec<u8>) -> Result<(), NoMemory> {
-        self.identities.push_words(line)?;
-        self.actions.push_words(line)?;
-        self.any.push_words(line)?;
-        self.inactive.push_words(line)?;
-        self.active.push_words(line)?;
-        self.pairs.push_words(line)
+    #[tactic(auto, using(audit_words::proofs::Putting::put_rules))]
+    fn put_words(&self, line: &mut LineBuffer) {
+        self.identities.put_words(line);
+        self.actions.put_words(line);
+        self.any.put_words(line);
+        self.inactive.put_words(line);
+        self.active.put_words(line);
+        self.pairs.put_words(line);
     }
 
     fn take_from(words: &mut Words) -> Result<RuleEntry, Stop> {
@@ -99,11 +99,11 @@ impl Spell for RuleEntry {
 impl Spell for FileFault {
     ghost codec = { file_fault };
 
-    #[tactic(auto, using(audit_words::proofs::Written::write_rules))]
-    fn push_words(&self, line: &mut Vec<u8>) -> Result<(), NoMemory> {
-        self.file.push_words(line)?;
-        self.kind.push_words(line)?;
-        self.at.push_words(line)
+    #[tactic(auto, using(audit_words::proofs::Putting::put_rules))]
+    fn put_words(&self, line: &mut LineBuffer) {
+        self.file.put_words(line);
+        self.kind.put_words(line);
+        self.at.put_words(line);
     }
 
     fn take_from(words: &mut Words) -> Result<FileFault, Stop> {

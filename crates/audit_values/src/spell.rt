@@ -1,28 +1,27 @@
 // Values that words spell.
-ghost use Rattle.std.specs.Prelude.{◌≡◌, ◌++◌, OnOk};
-ghost use Rattle.audit_words.specs.Codecs.{Codec, number, boolean, option, list, take_items, spell_items};
+ghost use Rattle.std.specs.Prelude.{◌≡◌, ◌∷◌, length};
+ghost use Rattle.audit_words.specs.Buffers.{put};
+ghost use Rattle.audit_words.specs.Codecs.{Codec, Numeral, number, boolean, option, list, take_items, spell_items};
 ghost use Rattle.audit_words.specs.Escapes.{text, action_id};
 ghost use Rattle.audit_words.specs.Lines.{written};
 ghost use Rattle.audit_words.specs.Reads.{Gives};
 ghost use Rattle.audit_words.specs.Salts.{salt, cookie};
 
 use audit_words::{
-    Kind, Stop, Words, push_boolean, push_cookie, push_number, push_plain, push_salt, push_text,
+    Kind, LineBuffer, Stop, Words, put_boolean, put_cookie, put_number, put_plain, put_salt,
+    put_text,
 };
 use authority_model::Cookie;
-use pk_types::{ActionId, List, NoMemory, Text};
+use pk_types::{ActionId, List, Text};
 
 /// A value that words spell.
 pub trait Spell: Drop + Sized {
     /// Which words they are.
     ghost codec: { Codec Self };
 
-    /// Adds the words of the value, each behind a space.
-    ///
-    /// # Errors
-    /// `NoMemory` alone.
-    fn push_words(&self, line: &mut Vec<u8>) -> Result<(), NoMemory>
-        ensures words { OnOk result (line.new.items ≡ line.old.items ++ written (codec.spell self.now)) };
+    /// Puts the words of the value behind the others, each behind a space. It takes no memory.
+    fn put_words(&self, line: &mut LineBuffer)
+        ensures words { line.new ≡ put line.old (written (codec.spell self.now)) };
 
     /// Takes a value from the front of the words.
     ///
@@ -35,8 +34,8 @@ pub trait Spell: Drop + Sized {
 impl Spell for u32 {
     ghost codec = { number 32 };
 
-    fn push_words(&self, line: &mut Vec<u8>) -> Result<(), NoMemory> {
-        push_number(line, u64::from(*self))
+    fn put_words(&self, line: &mut LineBuffer) {
+        put_number(line, u64::from(*self));
     }
 
     fn take_from(words: &mut Words) -> Result<u32, Stop> {
@@ -47,8 +46,8 @@ impl Spell for u32 {
 impl Spell for u64 {
     ghost codec = { number 64 };
 
-    fn push_words(&self, line: &mut Vec<u8>) -> Result<(), NoMemory> {
-        push_number(line, *self)
+    fn put_words(&self, line: &mut LineBuffer) {
+        put_number(line, *self);
     }
 
     fn take_from(words: &mut Words) -> Result<u64, Stop> {
@@ -59,8 +58,8 @@ impl Spell for u64 {
 impl Spell for u128 {
     ghost codec = { salt };
 
-    fn push_words(&self, line: &mut Vec<u8>) -> Result<(), NoMemory> {
-        push_salt(line, *self)
+    fn put_words(&self, line: &mut LineBuffer) {
+        put_salt(line, *self);
     }
 
     fn take_from(words: &mut Words) -> Result<u128, Stop> {
@@ -71,8 +70,8 @@ impl Spell for u128 {
 impl Spell for bool {
     ghost codec = { boolean };
 
-    fn push_words(&self, line: &mut Vec<u8>) -> Result<(), NoMemory> {
-        push_boolean(line, *self)
+    fn put_words(&self, line: &mut LineBuffer) {
+        put_boolean(line, *self);
     }
 
     fn take_from(words: &mut Words) -> Result<bool, Stop> {
@@ -83,8 +82,8 @@ impl Spell for bool {
 impl Spell for Text {
     ghost codec = { text };
 
-    fn push_words(&self, line: &mut Vec<u8>) -> Result<(), NoMemory> {
-        push_text(line, self)
+    fn put_words(&self, line: &mut LineBuffer) {
+        put_text(line, self);
     }
 
     fn take_from(words: &mut Words) -> Result<Text, Stop> {
@@ -95,8 +94,8 @@ impl Spell for Text {
 impl Spell for ActionId {
     ghost codec = { action_id };
 
-    fn push_words(&self, line: &mut Vec<u8>) -> Result<(), NoMemory> {
-        push_text(line, self.text())
+    fn put_words(&self, line: &mut LineBuffer) {
+        put_text(line, self.text());
     }
 
     fn take_from(words: &mut Words) -> Result<ActionId, Stop> {
@@ -107,8 +106,8 @@ impl Spell for ActionId {
 impl Spell for Cookie {
     ghost codec = { cookie };
 
-    fn push_words(&self, line: &mut Vec<u8>) -> Result<(), NoMemory> {
-        push_cookie(line, *self)
+    fn put_words(&self, line: &mut LineBuffer) {
+        put_cookie(line, *self);
     }
 
     fn take_from(words: &mut Words) -> Result<Cookie, Stop> {
@@ -119,13 +118,13 @@ impl Spell for Cookie {
 impl<T: Spell> Spell for Option<T> {
     ghost codec = { option T.codec };
 
-    #[tactic(auto, using(audit_words::proofs::Written::write_rules))]
-    fn push_words(&self, line: &mut Vec<u8>) -> Result<(), NoMemory> {
+    #[tactic(auto, using(audit_words::proofs::Putting::put_rules))]
+    fn put_words(&self, line: &mut LineBuffer) {
         match self {
-            None => push_plain(line, b"-"),
+            None => put_plain(line, b"-"),
             Some(value) => {
-                push_plain(line, b"+")?;
-                value.push_words(line)
+                put_plain(line, b"+");
+                value.put_words(line);
             }
         }
     }
@@ -155,23 +154,21 @@ fn take_all<T: Spell>(words: &mut Words, count: u32) -> Result<List<T>, Stop>
     Ok(items)
 }
 
-/// Adds the words of all items.
-fn push_all<T: Spell>(line: &mut Vec<u8>, items: &[T]) -> Result<(), NoMemory>
-    ensures words { OnOk result (line.new.items ≡ line.old.items ++ written (spell_items T.codec items.now)) }
+/// Puts the number of items, and then the words of each of them.
+fn put_all<T: Spell>(line: &mut LineBuffer, items: &[T])
+    ensures words { line.new ≡ put line.old (written (Numeral (length items.now) ∷ spell_items T.codec items.now)) }
 {
+    put_number(line, items.len() as u64);
     for item in items {
-        item.push_words(line)?;
+        item.put_words(line);
     }
-    Ok(())
 }
 
 impl<T: Spell> Spell for List<T> {
     ghost codec = { list T.codec };
 
-    #[tactic(auto, using(audit_words::proofs::Written::write_rules))]
-    fn push_words(&self, line: &mut Vec<u8>) -> Result<(), NoMemory> {
-        push_number(line, self.len() as u64)?;
-        push_all(line, self.as_slice())
+    fn put_words(&self, line: &mut LineBuffer) {
+        put_all(line, self.as_slice());
     }
 
     fn take_from(words: &mut Words) -> Result<List<T>, Stop> {

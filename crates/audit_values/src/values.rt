@@ -4,16 +4,16 @@ ghost use Rattle.audit_words.specs.Codecs.{named_in};
 ghost use Rattle.audit_values.specs.Values.{pair, subject, identity, implicit, implicit_name, implicit_names, category, category_name, category_names};
 
 use crate::spell::Spell;
-use audit_words::{Kind, Stop, Words, push_plain};
-use pk_types::{Category, Identity, Implicit, NoMemory, Pair, Subject};
+use audit_words::{Kind, LineBuffer, Stop, Words, put_plain};
+use pk_types::{Category, Identity, Implicit, Pair, Subject};
 
 impl Spell for Pair {
     ghost codec = { pair };
 
-    #[tactic(auto, using(audit_words::proofs::Written::write_rules))]
-    fn push_words(&self, line: &mut Vec<u8>) -> Result<(), NoMemory> {
-        self.key.push_words(line)?;
-        self.value.push_words(line)
+    #[tactic(auto, using(audit_words::proofs::Putting::put_rules))]
+    fn put_words(&self, line: &mut LineBuffer) {
+        self.key.put_words(line);
+        self.value.put_words(line);
     }
 
     fn take_from(words: &mut Words) -> Result<Pair, Stop> {
@@ -26,21 +26,21 @@ impl Spell for Pair {
 impl Spell for Subject {
     ghost codec = { subject };
 
-    #[tactic(auto, using(audit_words::proofs::Written::write_rules))]
-    fn push_words(&self, line: &mut Vec<u8>) -> Result<(), NoMemory> {
+    #[tactic(auto, using(audit_words::proofs::Putting::put_rules))]
+    fn put_words(&self, line: &mut LineBuffer) {
         match self {
             Subject::Process { pid, start } => {
-                push_plain(line, b"Process")?;
-                pid.push_words(line)?;
-                start.push_words(line)
+                put_plain(line, b"Process");
+                pid.put_words(line);
+                start.put_words(line);
             }
             Subject::Session { id } => {
-                push_plain(line, b"Session")?;
-                id.push_words(line)
+                put_plain(line, b"Session");
+                id.put_words(line);
             }
             Subject::BusName { name } => {
-                push_plain(line, b"BusName")?;
-                name.push_words(line)
+                put_plain(line, b"BusName");
+                name.put_words(line);
             }
         }
     }
@@ -66,16 +66,16 @@ impl Spell for Subject {
 impl Spell for Identity {
     ghost codec = { identity };
 
-    #[tactic(auto, using(audit_words::proofs::Written::write_rules))]
-    fn push_words(&self, line: &mut Vec<u8>) -> Result<(), NoMemory> {
+    #[tactic(auto, using(audit_words::proofs::Putting::put_rules))]
+    fn put_words(&self, line: &mut LineBuffer) {
         match self {
             Identity::User(number) => {
-                push_plain(line, b"User")?;
-                number.push_words(line)
+                put_plain(line, b"User");
+                number.put_words(line);
             }
             Identity::Group(number) => {
-                push_plain(line, b"Group")?;
-                number.push_words(line)
+                put_plain(line, b"Group");
+                number.put_words(line);
             }
         }
     }
@@ -132,8 +132,8 @@ fn implicit_named(name: &[u8]) -> Option<Implicit>
 impl Spell for Implicit {
     ghost codec = { implicit };
 
-    fn push_words(&self, line: &mut Vec<u8>) -> Result<(), NoMemory> {
-        push_plain(line, implicit_name(*self).as_bytes())
+    fn put_words(&self, line: &mut LineBuffer) {
+        put_plain(line, implicit_name(*self).as_bytes());
     }
 
     fn take_from(words: &mut Words) -> Result<Implicit, Stop> {
@@ -173,8 +173,8 @@ fn category_named(name: &[u8]) -> Option<Category>
 impl Spell for Category {
     ghost codec = { category };
 
-    fn push_words(&self, line: &mut Vec<u8>) -> Result<(), NoMemory> {
-        push_plain(line, category_name(*self).as_bytes())
+    fn put_words(&self, line: &mut LineBuffer) {
+        put_plain(line, category_name(*self).as_bytes());
     }
 
     fn take_from(words: &mut Words) -> Result<Category, Stop> {

@@ -5,7 +5,7 @@ ghost use Rattle.authority_model.specs.Worlds.{user_label, group_label};
 ghost use Rattle.audit_values.specs.Worlds.{user, group, session, process};
 
 use crate::spell::Spell;
-use audit_words::{Stop, Words};
+use audit_words::{LineBuffer, Stop, Words};
 use authority_model::{Group, Process, Session, User};
 use pk_types::{List, NoMemory, Text};
 use std::alloc::Global;
@@ -39,11 +39,11 @@ fn group_label(alloc: Global, name: &Text) -> Result<Text, NoMemory>
 impl Spell for User {
     ghost codec = { user };
 
-    #[tactic(auto, using(audit_words::proofs::Written::write_rules))]
-    fn push_words(&self, line: &mut Vec<u8>) -> Result<(), NoMemory> {
-        self.uid.push_words(line)?;
-        self.name.push_words(line)?;
-        self.gids.push_words(line)
+    #[tactic(auto, using(audit_words::proofs::Putting::put_rules))]
+    fn put_words(&self, line: &mut LineBuffer) {
+        self.uid.put_words(line);
+        self.name.put_words(line);
+        self.gids.put_words(line);
     }
 
     fn take_from(words: &mut Words) -> Result<User, Stop> {
@@ -63,10 +63,10 @@ impl Spell for User {
 impl Spell for Group {
     ghost codec = { group };
 
-    #[tactic(auto, using(audit_words::proofs::Written::write_rules))]
-    fn push_words(&self, line: &mut Vec<u8>) -> Result<(), NoMemory> {
-        self.gid.push_words(line)?;
-        self.name.push_words(line)
+    #[tactic(auto, using(audit_words::proofs::Putting::put_rules))]
+    fn put_words(&self, line: &mut LineBuffer) {
+        self.gid.put_words(line);
+        self.name.put_words(line);
     }
 
     fn take_from(words: &mut Words) -> Result<Group, Stop> {
@@ -80,12 +80,12 @@ impl Spell for Group {
 impl Spell for Session {
     ghost codec = { session };
 
-    #[tactic(auto, using(audit_words::proofs::Written::write_rules))]
-    fn push_words(&self, line: &mut Vec<u8>) -> Result<(), NoMemory> {
-        self.id.push_words(line)?;
-        self.uid.push_words(line)?;
-        self.local.push_words(line)?;
-        self.active.push_words(line)
+    #[tactic(auto, using(audit_words::proofs::Putting::put_rules))]
+    fn put_words(&self, line: &mut LineBuffer) {
+        self.id.put_words(line);
+        self.uid.put_words(line);
+        self.local.put_words(line);
+        self.active.put_words(line);
     }
 
     fn take_from(words: &mut Words) -> Result<Session, Stop> {
@@ -105,12 +105,12 @@ impl Spell for Session {
 impl Spell for Process {
     ghost codec = { process };
 
-    #[tactic(auto, using(audit_words::proofs::Written::write_rules))]
-    fn push_words(&self, line: &mut Vec<u8>) -> Result<(), NoMemory> {
-        self.pid.push_words(line)?;
-        self.start.push_words(line)?;
-        self.uid.push_words(line)?;
-        self.session.push_words(line)
+    #[tactic(auto, using(audit_words::proofs::Putting::put_rules))]
+    fn put_words(&self, line: &mut LineBuffer) {
+        self.pid.put_words(line);
+        self.start.put_words(line);
+        self.uid.put_words(line);
+        self.session.put_words(line);
     }
 
     fn take_from(words: &mut Words) -> Result<Process, Stop> {

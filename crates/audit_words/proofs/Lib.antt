@@ -8,6 +8,7 @@ pub mod Chosen
 pub mod Listed
 pub mod Splits
 pub mod Written
+pub mod Putting
 pub mod Escaping
 pub mod Loops
 pub mod TextWords

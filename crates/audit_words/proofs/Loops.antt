@@ -1,12 +1,9 @@
 -- Items written and read one after the other, as loops do.
-use Rattle.std.proofs.Common.{◌≡◌, ℕ, suc, ◌-◌, ◌+◌, ◌≤◌, ◌<◌, List, [], ◌∷◌, ◌++◌, length, drop, get_or, Ok, Err, refl, sym, ap, ◌∙◌, append_assoc, append-nil, arith, add-one, drop-cons}
-use Rattle.std.proofs.lemmas.List.{drop_all}
+use Rattle.std.proofs.Common.{◌≡◌, ℕ, suc, ◌-◌, ◌+◌, ◌≤◌, ◌<◌, List, [], ◌∷◌, ◌++◌, Ok, Err, refl, sym, ap, ◌∙◌, append_assoc, append-nil, arith}
 use Rattle.audit_words.specs.declared.fault.Stop.{Stop}
 use Rattle.audit_words.specs.declared.fault.Stop.TheVariants as stops
-use Rattle.audit_words.specs.Codecs.{Codec, Reading, ◌>>=◌, take_items, spell_items}
+use Rattle.audit_words.specs.Codecs.{Codec, Reading, ◌>>=◌, take_items}
 use Rattle.audit_words.specs.Reads.{Fails}
-use Rattle.audit_words.specs.Lines.{written}
-use Rattle.audit_words.proofs.Written.{written_append, written_nil}
 
 abbrev pub with_front : {A : Type 0} → List A → Reading (List A) → Reading (List A)
 with_front front read = read >>= λ x. Ok (front ++ x.0, x.1)
@@ -40,20 +37,3 @@ pub is_done : (A : Type 0) (c : Codec A) (front : List A) (count i : ℕ) (ws : 
 is_done A c front count i ws total le so_far =
     let k : count - i ≡ 0 = omega arith in
     sym so_far ∙ ap (λ (n : ℕ). with_front front (take_items c n ws)) k ∙ ap (λ (vs : List A). Ok (vs, ws)) (append-nil front)
-
--- one more item was written
-pub item_written : (A : Type 0) (c : Codec A) (line new total : List ℕ) (items : List A) (i : ℕ) (item : A) → i < length items → item ≡ get_or items i item → new ≡ line ++ written (c.spell item)
-    → line ++ written (spell_items c (drop i items)) ≡ total → new ++ written (spell_items c (drop (i + 1) items)) ≡ total
-item_written A c line new total items i item lt is push so_far =
-    let parts : drop i items ≡ item ∷ drop (i + 1) items = drop-cons items i item lt ∙ rw (← is, add-one) refl in
-    let grown : written (spell_items c (drop i items)) ≡ written (c.spell item) ++ written (spell_items c (drop (i + 1) items)) =
-    ap (λ (vs : List A). written (spell_items c vs)) parts ∙ written_append (c.spell item) (spell_items c (drop (i + 1) items)) in
-    ap (λ (t : List ℕ). t ++ written (spell_items c (drop (i + 1) items))) push
-    ∙ append_assoc line (written (c.spell item)) (written (spell_items c (drop (i + 1) items)))
-    ∙ ap (λ (t : List ℕ). line ++ t) (sym grown) ∙ so_far
-
-pub all_written : (A : Type 0) (c : Codec A) (line total : List ℕ) (items : List A) (i : ℕ) → length items ≤ i
-    → line ++ written (spell_items c (drop i items)) ≡ total → line ≡ total
-all_written A c line total items i le so_far =
-    let none : drop i items ≡ [] = drop_all i items le in
-    sym (append-nil line) ∙ ap (λ (t : List ℕ). line ++ t) (sym written_nil) ∙ sym (ap (λ (vs : List A). line ++ written (spell_items c vs)) none) ∙ so_far

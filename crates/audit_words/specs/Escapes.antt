@@ -1,21 +1,24 @@
 -- A text as one word: each byte outside of 0x21 to 0x7E, and `%` (37), as `%` and two hexadecimal digits.
-use Rattle.std.specs.Prelude.{◌≡◌, ◌<◌, ℕ, ◌+◌, ◌-◌, ◌*◌, ◌/◌, ◌%◌, ◌==◌, ◌&&◌, not, Bool, true, false, nat_le, nat_lt, length, List, [], ◌∷◌, ◌++◌, Option, Some, None, if◌then◌else◌}
+use Rattle.std.specs.Prelude.{◌≡◌, ◌<◌, ℕ, ◌+◌, ◌*◌, ◌/◌, ◌%◌, ◌==◌, ◌&&◌, not, Bool, true, false, nat_le, length, List, [], ◌∷◌, ◌++◌, Option, Some, None, if◌then◌else◌}
 use Rattle.pk_types.specs.Text.{text_fault_of}
 use Rattle.pk_types.specs.ActionId.{id_fault_of}
 use Rattle.pk_types.specs.declared.text.TextFault.{TextFault}
+use Rattle.audit_words.specs.declared.digits.Letters.TheVariants.{Upper}
 use Rattle.audit_words.specs.declared.fault.Kind.TheVariants.{Value}
 use Rattle.audit_words.specs.declared.texts.TheConstants.{MAX_NAME}
 use Rattle.audit_words.specs.Codecs.{Plain, Codec, one}
+use Rattle.audit_words.specs.Digits.{digit_in, value_in}
 
 abbrev pub is_plain : ℕ → Bool
 is_plain b = nat_le 33 b && (nat_le b 126 && not (b == 37))
 
 -- an upper-case hexadecimal digit
 abbrev pub digit_of : ℕ → ℕ
-digit_of n = if nat_lt n 10 then 48 + n else 55 + n
+digit_of n = digit_in Upper n
 
+-- its value
 abbrev pub digit_value : ℕ → Option ℕ
-digit_value c = if nat_le 48 c && nat_le c 57 then Some (c - 48) else if nat_le 65 c && nat_le c 70 then Some (c - 55) else None
+digit_value c = value_in Upper c
 
 abbrev pub escaped_byte : ℕ → List ℕ
 escaped_byte b = if is_plain b then b ∷ [] else 37 ∷ digit_of (b / 16) ∷ digit_of (b % 16) ∷ []

@@ -1,15 +1,17 @@
 -- Random words, and the texts of cookies.
-use Rattle.std.specs.Prelude.{◌<◌, ◌^◌, ◌-◌, ◌+◌, ◌*◌, ◌==◌, ◌&&◌, ℕ, nat_le, length, List, [], ◌∷◌, Option, Some, None, option_and_then, if◌then◌else◌}
+use Rattle.std.specs.Prelude.{◌<◌, ◌^◌, ◌-◌, ◌+◌, ◌*◌, ◌==◌, ℕ, length, List, [], ◌∷◌, Option, Some, None, option_and_then, if◌then◌else◌}
 use Rattle.pk_types.specs.Decimals.{decimal_up_to}
 use Rattle.authority_model.specs.Cookies.{hex, cookie_text}
 use Rattle.authority_model.specs.declared.verdict.Cookie.{Cookie}
+use Rattle.audit_words.specs.declared.digits.Letters.TheVariants.{Lower}
 use Rattle.audit_words.specs.declared.fault.Kind.TheVariants.{Value}
 use Rattle.audit_words.specs.Codecs.{Plain, Codec, one}
+use Rattle.audit_words.specs.Digits.{value_in}
 use Rattle.audit_words.specs.Lines.{cut_at}
 
 -- the value of a lower-case hexadecimal digit
 abbrev pub hex_value : ℕ → Option ℕ
-hex_value c = if nat_le 48 c && nat_le c 57 then Some (c - 48) else if nat_le 97 c && nat_le c 102 then Some (c - 87) else None
+hex_value c = value_in Lower c
 
 -- the number of some digits that stand behind those of a number
 abbrev pub hex_after : ℕ → List ℕ → Option ℕ

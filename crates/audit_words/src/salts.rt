@@ -1,73 +1,56 @@
 // Random words and cookies.
-ghost use Rattle.std.specs.Prelude.{◌≡◌, ◌<◌, ◌++◌, ◌∷◌, [], length, OnOk, IfSome};
-ghost use Rattle.authority_model.specs.Cookies.{hex, hex_digit, cookie_text};
+ghost use Rattle.std.specs.Prelude.{◌≡◌, ◌<◌, ◌∷◌, [], length, IfSome};
+ghost use Rattle.authority_model.specs.Cookies.{hex, cookie_text};
+ghost use Rattle.audit_words.specs.Buffers.{put};
 ghost use Rattle.audit_words.specs.Codecs.{Plain};
 ghost use Rattle.audit_words.specs.Lines.{written};
 ghost use Rattle.audit_words.specs.Reads.{WordGives};
-ghost use Rattle.audit_words.specs.Salts.{hex_value, hex_after, salt_value, cookie_of_parts, cookie_value};
+ghost use Rattle.audit_words.specs.Salts.{hex_after, salt_value, cookie_of_parts, cookie_value};
 ghost use Rattle.audit_words.specs.declared.fault.Kind.TheVariants.{Value};
 
+use crate::buffer::LineBuffer;
+use crate::digits::Letters;
 use crate::fault::{Kind, Stop};
 use authority_model::Cookie;
 use itoa::Buffer;
-use pk_types::{NoMemory, cut, number_up_to};
+use pk_types::{cut, number_up_to};
 
 /// How many hexadecimal digits a random word has.
 const SALT_DIGITS: u8 = 32;
 
-/// The lower-case hexadecimal digit of a number below 16.
-fn digit(n: u8) -> u8
-    requires { n < 16 }
-    ensures digit { result ≡ hex_digit n }
+/// Puts the last hexadecimal digits of a number, as many as are asked for.
+fn put_hex(line: &mut LineBuffer, digits: u8, n: u128)
+    requires some { 0 < digits }
+    ensures digits { line.new ≡ put line.old (hex digits n) }
 {
-    if n < 10 { b'0' + n } else { b'a' - 10 + n }
-}
-
-/// Adds the last hexadecimal digits of a number, as many as are asked for.
-fn push_hex(line: &mut Vec<u8>, digits: u8, n: u128) -> Result<(), NoMemory>
-    ensures digits { OnOk result (line.new.items ≡ line.old.items ++ hex digits n) }
-{
-    if digits == 0 {
-        return Ok(());
+    let last = Letters::Lower.digit((n % 16) as u8);
+    if digits == 1 {
+        line.put(&[last]);
+        return;
     }
-    push_hex(line, digits - 1, n / 16)?;
-    line.push(digit((n % 16) as u8))?;
-    Ok(())
+    put_hex(line, digits - 1, n / 16);
+    line.put(&[last]);
 }
 
-/// Adds a random word behind a space.
-#[tactic(auto, using(crate::proofs::Written::write_rules))]
-pub fn push_salt(line: &mut Vec<u8>, salt: u128) -> Result<(), NoMemory>
-    ensures word { OnOk result (line.new.items ≡ line.old.items ++ written (Plain (hex 32 salt) ∷ [])) }
+/// Puts a random word behind a space.
+#[tactic(auto, using(crate::proofs::Putting::put_rules))]
+pub fn put_salt(line: &mut LineBuffer, salt: u128)
+    ensures word { line.new ≡ put line.old (written (Plain (hex 32 salt) ∷ [])) }
 {
-    line.push(b' ')?;
-    push_hex(line, SALT_DIGITS, salt)
+    line.put(b" ");
+    put_hex(line, SALT_DIGITS, salt);
 }
 
-/// Adds the text of a cookie behind a space.
-#[tactic(auto, using(crate::proofs::Written::write_rules))]
-pub fn push_cookie(line: &mut Vec<u8>, cookie: Cookie) -> Result<(), NoMemory>
-    ensures word { OnOk result (line.new.items ≡ line.old.items ++ written (Plain (cookie_text cookie) ∷ [])) }
+/// Puts the text of a cookie behind a space.
+#[tactic(auto, using(crate::proofs::Putting::put_rules))]
+pub fn put_cookie(line: &mut LineBuffer, cookie: Cookie)
+    ensures word { line.new ≡ put line.old (written (Plain (cookie_text cookie) ∷ [])) }
 {
     let mut buffer = Buffer::new();
-    line.push(b' ')?;
-    line.extend_from_slice(buffer.format(cookie.serial).as_bytes())?;
-    line.push(b'-')?;
-    push_hex(line, SALT_DIGITS, cookie.salt)
-}
-
-/// The value of a lower-case hexadecimal digit.
-fn value_of_digit(c: u8) -> Option<u8>
-    ensures value { result ≡ hex_value c }
-    ensures small { IfSome result (λ n. n < 16) }
-{
-    if 48 <= c && c <= 57 {
-        Some(c - 48)
-    } else if 97 <= c && c <= 102 {
-        Some(c - 87)
-    } else {
-        None
-    }
+    line.put(b" ");
+    line.put(buffer.format(cookie.serial).as_bytes());
+    line.put(b"-");
+    put_hex(line, SALT_DIGITS, cookie.salt);
 }
 
 /// The number of 32 digits.
@@ -78,7 +61,7 @@ fn digits_number(word: &[u8]) -> Option<u128>
     let mut value = 0u128;
     let mut rest = word;
     while let Some((c, behind)) = rest.split_first() {
-        match value_of_digit(*c) {
+        match Letters::Lower.value(*c) {
             Some(digit) => {
                 value = value * 16 + u128::from(digit);
                 rest = behind;

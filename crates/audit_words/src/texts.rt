@@ -6,6 +6,7 @@ ghost use Rattle.pk_types.specs.ActionId.{id_fault_of};
 ghost use Rattle.audit_words.specs.Reads.{WordGives};
 ghost use Rattle.audit_words.specs.declared.fault.Kind.TheVariants.{Value};
 
+use crate::digits::Letters;
 use crate::fault::{Kind, Stop};
 use crate::writing::is_plain_byte;
 use pk_types::{ActionId, IdFault, NoMemory, Text, TextFault};
@@ -14,29 +15,15 @@ use std::alloc::Global;
 /// The greatest number of bytes of a user's or a group's name.
 pub const MAX_NAME: usize = 4096;
 
-/// The value of an upper-case hexadecimal digit.
-fn value_of_digit(c: u8) -> Option<u8>
-    ensures value { result ≡ digit_value c }
-    ensures small { IfSome result (λ n. n < 16) }
-{
-    if 48 <= c && c <= 57 {
-        Some(c - 48)
-    } else if 65 <= c && c <= 70 {
-        Some(c - 55)
-    } else {
-        None
-    }
-}
-
 /// The byte for which two digits stand, where it is one that is escaped.
 fn escape<'a>(high: u8, low: u8, rest: &'a [u8]) -> Option<(u8, &'a [u8])>
     ensures some { IfSome result (λ x. escape_of (digit_value high) (digit_value low) rest.now ≡ Some (x.0, x.1.now)) }
     ensures rest { IfSome result (λ x. x.1.now ≡ rest.now) }
     ensures none { IfNone result (escape_of (digit_value high) (digit_value low) rest.now ≡ None) }
 {
-    match value_of_digit(high) {
+    match Letters::Upper.value(high) {
         None => None,
-        Some(high) => match value_of_digit(low) {
+        Some(high) => match Letters::Upper.value(low) {
             None => None,
             Some(low) => {
                 let b = high * 16 + low;

@@ -18,7 +18,6 @@ use pk_types::{NoMemory, Text};
 use std::alloc::Global;
 
 /// Writes the audit text of a history.
-#[tactic(auto, using(pk_outside::proofs::Going::may_go_free))]
 fn write_text<O: Sink>(alloc: Global, history: &History, output: &mut O) -> ReplayEnd
     requires free { IsFree O.allowed }
     ensures written { IsWritten history.now (O.held output.old) (O.held output.new) result }

@@ -1,4 +1,4 @@
-use Rattle.std.proofs.Common.{◌≡◌, ◌∙◌, ◌++◌, IsTrue, List, ℕ, Some, Result, sym, ap, subst}
+use Rattle.std.proofs.Common.{◌≡◌, ◌++◌, IsTrue, List, ℕ, Some, Result, subst}
 use Rattle.pk_outside.proofs.Written.{Gave-all}
 use Rattle.pk_outside.specs.Streams.{Gave}
 use Rattle.audit_text.specs.Audit.{audit_text, reading, behind_head, first_line}

@@ -1,6 +1,4 @@
-use Rattle.std.proofs.Common.{List, ℕ}
 use Rattle.pk_types.specs.Pieces.{pieces_of}
-use Rattle.audit_text.specs.Lines.{value_of}
 use Rattle.audit_text.proofs.Taking.{passed_on, no_line, value_taken, value_bad, not_the_end}
 use Rattle.audit_text.proofs.lines.Lines.item.Goals as goal
 
