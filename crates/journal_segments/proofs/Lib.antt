@@ -1,0 +1,5 @@
+pub mod Writing
+pub mod Onto
+pub mod Items
+pub mod Steps
+pub mod Entries

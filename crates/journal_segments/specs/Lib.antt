@@ -1,0 +1,4 @@
+pub mod Due
+pub mod Text
+pub mod Segments
+pub mod Steps
