@@ -5,7 +5,7 @@ use Rattle.std.proofs.lemmas.Bool.Decides.{nat_tests}
 use mathlib.Core.List.{IsPrefix}
 use Rattle.authority_model.specs.declared.event.Event.{Event}
 use Rattle.authority_model.specs.declared.journal.Item.{Item}
-use Rattle.connection_lookout.specs.Watching.{HasMet, Looks, LooksAt, TookOut, Watch, has_ended, has_seen, watch}
+use Rattle.connection_lookout.specs.Watching.{HasMet, IsOut, Looks, LooksAt, TookOut, Watch, has_ended, has_seen, watch}
 use Rattle.history_lock.proofs.Growth.{learned_begins, learned_trans}
 use Rattle.history_lock.specs.Calls.{Learned}
 use Rattle.history_lock.specs.Causes.{known_or}
@@ -25,8 +25,8 @@ no_look event v none = subst (λ (n : Option (ℕ × ℕ)). LooksAt n v v false)
 
 -- one look
 pub one_look : (event : Event) (pid start : ℕ) (v w : Watch) (s : Sighted) (unlisted failed : Bool) → named event ≡ Some (pid, start) → GivesSighting v.left w.left s → Looked v.gave w.gave pid s → has_seen s ≡ not failed → TookOut unlisted pid start v.pass w.pass
-    → (unlisted ≡ true → has_ended start s ≡ true) → Looks event (Some v) (Some w) failed
-one_look event pid start v w s unlisted failed is left gave seen out ended = subst (λ (n : Option (ℕ × ℕ)). LooksAt n v w failed) (sym is) (record {
+    → (unlisted ≡ true → has_ended start s ≡ true) → (has_ended start s ≡ true → IsOut v.pass.history pid start w.pass) → Looks event (Some v) (Some w) failed
+one_look event pid start v w s unlisted failed is left gave seen out ended gone = subst (λ (n : Option (ℕ × ℕ)). LooksAt n v w failed) (sym is) (record {
   turn = record { pid = pid; start = start; sighted = s; unlisted = unlisted };
   process = refl;
   left = left;
@@ -34,6 +34,7 @@ one_look event pid start v w s unlisted failed is left gave seen out ended = sub
   failed_is = seen;
   out = out;
   ended = ended;
+  gone = gone;
 })
 
 -- a look that shows that a process has ended did not fail
@@ -41,6 +42,20 @@ pub ended_seen : (start : ℕ) (s : Sighted) → has_ended start s ≡ true → 
 ended_seen start (sighted.Alive seen) is = refl
 ended_seen start sighted.Gone is = refl
 ended_seen start sighted.Failed is = absurd (cc (is))
+
+-- a look that failed shows no process that has ended
+pub failed_not_ended : (start : ℕ) (s : Sighted) → has_seen s ≡ false → has_ended start s ≡ true → ⊥
+failed_not_ended start s failed is = other (sym (ended_seen start s is) ∙ failed)
+  where
+    other : true ≡ false → ⊥
+    other e = cc
+
+-- neither does one that shows that it lives
+pub living_not_ended : (b : Bool) → b ≡ false → b ≡ true → ⊥
+living_not_ended b lives is = other (sym is ∙ lives)
+  where
+    other : true ≡ false → ⊥
+    other e = cc
 
 -- a look that failed was counted, and no other
 pub look_cause : (before now : ℕ) (s : Sighted) (failed : Bool) → has_seen s ≡ not failed → SightCause before now s → RoseWhere failed before now

@@ -1,23 +1,27 @@
 -- What a sighter did, as the history grows.
-use Rattle.std.proofs.Common.{◌≡◌, ◌≢◌, ℕ, Bool, true, List, [], ◌∷◌, ◌++◌, refl, ap, sym, ◌∙◌, subst, append_assoc}
-use Rattle.std.specs.Prelude.{◌==◌}
+use Rattle.std.proofs.Common.{◌≡◌, ◌≢◌, ℕ, Bool, true, false, cond, List, Some, [], ◌∷◌, ◌++◌, refl, ap, sym, ◌∙◌, subst, append_assoc}
+use Rattle.std.specs.Prelude.{is_some, not}
+use Rattle.std.specs.List.{filter, find}
 use Rattle.std.proofs.lemmas.List.{append-nil}
 use Rattle.std.proofs.lemmas.List.Elements.{All-head, All-tail}
 use Rattle.history_lock.specs.Known.{Known}
 use Rattle.history_lock.specs.Entries.{NoneBy, GrownByOthers}
 use Rattle.history_lock.specs.Calls.{Learned}
-use Rattle.authority_core.specs.Unlisting.{lists_process, unlisted}
+use Rattle.history_lock.proofs.Prefixes.{prefix_self}
+use Rattle.authority_core.specs.Unlisting.{is_process, lists_process, unlisted}
 use Rattle.authority_model.specs.declared.journal.Item.{Item}
 use Rattle.authority_model.specs.declared.journal.Limits.{Limits}
 use Rattle.authority_model.specs.declared.load.Loaded.{Loaded}
 use Rattle.authority_model.specs.Given.{load_given, next}
+use Rattle.authority_model.specs.Items.{loaded_of}
 use Rattle.shared_authority.specs.Journals.{IsJournal, caller_of, past_of}
 use Rattle.shared_authority.specs.declared.refused.SubmitUnlistRefused.{SubmitUnlistRefused}
 use Rattle.shared_authority.specs.declared.refused.SubmitUnlistRefused.TheVariants as submit_unlist
-use Rattle.shared_authority.specs.Passes.{SubmitUnlistIsRefused, Unlisted}
+use Rattle.shared_authority.specs.Passes.{IsNotListed, SubmitUnlistIsRefused, Unlisted}
 use Rattle.connection_lookout.specs.Unlistings.{DidUnlist, IsUnlisting, UnlistedLast}
+use Rattle.connection_lookout.specs.Watching.{LacksProcess}
 use Rattle.connection_laws.proofs.Doing.{not_by, own_by}
-use Rattle.connection_laws.proofs.Growing.{past_snoc}
+use Rattle.connection_laws.proofs.Growing.{knows_entered, knows_learned, past_snoc}
 
 -- another's item changes nothing
 unlist_other : (n : ℕ) (past : List Item) (i : Item) (ps : List (ℕ × ℕ)) → caller_of i ≢ n → DidUnlist n past ps → DidUnlist n (i ∷ past) ps
@@ -64,3 +68,38 @@ refused_learned limits v pid start (submit_unlist.Ended cause) w refused = refus
 refused_learned limits v pid start submit_unlist.NotListed w refused = refused.learned
 refused_learned limits v pid start (submit_unlist.JournalFull entries bytes) w refused = refused.0.learned
 refused_learned limits v pid start submit_unlist.NoMemory w refused = refused.0.learned
+
+-- what a filter took out is found no more
+find_filtered : {X : Type 0} (test : X → Bool) (xs : List X) → is_some (find test (filter (λ (x : X). not (test x)) xs)) ≡ false
+find_filtered test [] = refl
+find_filtered {X = X} test (x ∷ xs) = go (test x) refl (find_filtered test xs)
+  where
+    others : List X
+    others = filter (λ (y : X). not (test y)) xs
+
+    go : (b : Bool) → test x ≡ b → is_some (find test others) ≡ false → is_some (find test (cond (not b) (x ∷ others) others)) ≡ false
+    go true is none = none
+    go false is none = ap (λ (b : Bool). is_some (cond b (Some x) (find test others))) is ∙ none
+
+-- a load without a process does not list it
+unlisted_lacks : (l : Loaded) (pid start : ℕ) → lists_process (unlisted l pid start) pid start ≡ false
+unlisted_lacks l pid start = find_filtered (is_process pid start) l.world.processes
+
+-- a process that was taken out is out
+pub unlisted_out : (v : Known Item) (pid start place : ℕ) (w : Known Item) → Unlisted v 0 pid start place w → LacksProcess v.history w.history pid start
+unlisted_out v pid start place w u =
+    let e = u.submitted.entered in
+    let before = e.learned.grown.before in
+    let past : past_of w.history ≡ next (past_of before) (load_given v.number 0 (unlisted u.loaded pid start)) ∷ past_of before = ap past_of e.learned.grown.grown ∙ past_snoc before e.item ∙ ap (λ (i : Item). i ∷ past_of before) e.is_next in
+    record {
+      known = w.history;
+      after = (knows_entered v (load_given v.number 0 (unlisted u.loaded pid start)) w e).begins;
+      within = prefix_self w.history;
+      lacks = ap (λ (l : List Item). lists_process (loaded_of l) pid start) past ∙ unlisted_lacks u.loaded pid start;
+    }
+
+-- so is one that was not listed
+pub not_listed_out : (limits : Limits) (v : Known Item) (pid start : ℕ) (r : SubmitUnlistRefused) (w : Known Item) → r ≡ submit_unlist.NotListed → SubmitUnlistIsRefused limits v pid start r w → LacksProcess v.history w.history pid start
+not_listed_out limits v pid start r w is refused =
+    let x : IsNotListed v pid start w = subst (λ (r : SubmitUnlistRefused). SubmitUnlistIsRefused limits v pid start r w) is refused in
+    record { known = w.history; after = (knows_learned v w x.learned).begins; within = prefix_self w.history; lacks = x.absent }

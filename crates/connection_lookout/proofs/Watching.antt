@@ -1,5 +1,5 @@
 -- What each look makes of what a sighter has done.
-use Rattle.std.proofs.Common.{◌≡◌, ℕ, Bool, true, false, cond, List, [], ◌∷◌, ◌++◌, Option, Some, None, refl, ap, sym, ◌∙◌, subst, append-nil, append_assoc, map, inl, inr}
+use Rattle.std.proofs.Common.{◌≡◌, ℕ, Bool, true, false, cond, get_or, List, [], ◌∷◌, ◌++◌, Option, Some, None, refl, ap, sym, ◌∙◌, subst, append-nil, append_assoc, map, inl, inr}
 use Rattle.std.specs.Prelude.{All, filter, not}
 use Rattle.std.specs.List.{cons_option}
 use Rattle.std.proofs.lemmas.List.{map-append}
@@ -9,11 +9,11 @@ use Rattle.authority_model.specs.declared.event.Event.{Event}
 use Rattle.authority_model.specs.declared.journal.Item.{Item}
 use Rattle.connection_laws.proofs.Growing.{knows_entered, knows_learned}
 use Rattle.connection_lookout.proofs.Unlisting.{unlist_entered, unlist_learned, unlist_none}
-use Rattle.connection_laws.specs.Knowing.{KnowsMore}
 use Rattle.connection_lookout.specs.Unlistings.{DidUnlist}
-use Rattle.connection_lookout.specs.Watching.{AllLooked, AllTaken, HasMet, IsFresh, Looks, LooksAt, Meets, Takes, TookOut, TookTurn, Turn, Watch, Watched, Watching, has_ended, has_seen, look_of, names, process_of, processes}
+use Rattle.connection_lookout.specs.Watching.{AllLooked, AllTaken, HasMet, IsFresh, IsOut, Looks, LooksAt, Takes, TookOut, TookTurn, Turn, Watch, Watched, Watching, has_ended, has_seen, look_of, names, process_of, processes}
 use Rattle.history_lock.proofs.Prefixes.{prefix_self, prefix_trans}
 use Rattle.history_lock.specs.Known.{Known}
+use Rattle.history_lock.specs.declared.machine.EndCause.{EndCause}
 use Rattle.pk_outside.specs.declared.sights.Sighted.{Sighted}
 use Rattle.pk_outside.specs.Sightings.{GivesSighting, Look, Looked}
 use Rattle.shared_authority.specs.Journals.{past_of}
@@ -88,6 +88,32 @@ out_did n true pid start v w ps is out did = unlist_entered n v pid start out.0 
 out_did n false pid start v w ps is (inl same) did = subst (λ (k : Known Item). DidUnlist n (past_of k.history) (ps ++ [])) (sym same) (subst (λ (l : List (ℕ × ℕ)). DidUnlist n (past_of v.history) l) (sym (append-nil ps)) did)
 out_did n false pid start v w ps is (inr l) did = unlist_learned n v w (ps ++ []) is l (subst (λ (l : List (ℕ × ℕ)). DidUnlist n (past_of v.history) l) (sym (append-nil ps)) did)
 
+-- a lock that has ended has ended for good
+stays_ended : (b : Bool) (pid start : ℕ) (v w : Known Item) → TookOut b pid start v w → (cause : EndCause) → v.ended ≡ Some cause → w.ended ≡ Some cause
+stays_ended true pid start v w out cause is = absurd (other (sym is ∙ out.1.submitted.entered.learned.knew_none))
+  where
+    other : Some cause ≡ None → ⊥
+    other e = cc
+stays_ended false pid start v w (inl same) cause is = ap (λ (k : Known Item). k.ended) same ∙ is
+stays_ended false pid start v w (inr l) cause is = (l.ended cause is).0
+
+-- a process that is out since a later history is out since an earlier one
+out_since : (first later : List Item) (pid start : ℕ) (w : Known Item) → IsPrefix first later → IsOut later pid start w → IsOut first pid start w
+out_since first later pid start w p (inl x) = inl (record { known = x.known; after = prefix_trans first later x.known p x.after; within = x.within; lacks = x.lacks })
+out_since first later pid start w p (inr x) = inr x
+
+-- and goes on to be
+out_on : (first : List Item) (pid start : ℕ) (v w : Known Item) → IsPrefix v.history w.history → ((cause : EndCause) → v.ended ≡ Some cause → w.ended ≡ Some cause) → IsOut first pid start v → IsOut first pid start w
+out_on first pid start v w p ends (inl x) = inl (record { known = x.known; after = x.after; within = prefix_trans x.known v.history w.history x.within p; lacks = x.lacks })
+out_on first pid start v w p ends (inr (cause, is)) = inr (cause, ends cause is)
+
+-- the turns whose processes have ended, of which each is out
+abbrev AreOut : List Item → Known Item → Turn → Type 0
+AreOut first w t = has_ended t.start t.sighted ≡ true → IsOut first t.pid t.start w
+
+all_out_on : (first : List Item) (turns : List Turn) (v w : Known Item) → IsPrefix v.history w.history → ((cause : EndCause) → v.ended ≡ Some cause → w.ended ≡ Some cause) → All (AreOut first v) turns → All (AreOut first w) turns
+all_out_on first turns v w p ends all = λ k d lt ended. let t : Turn = get_or turns k d in out_on first t.pid t.start v w p ends (all k d lt ended)
+
 -- one turn more; where its look failed no event more was handed in
 turn_more : (events more : List Event) (u v w : Watch) (p : ℕ × ℕ) (failed : Bool) → Watching events u v → TookTurn p v w failed → names more ≡ names events ++ cond (not failed) (p ∷ []) [] → Watching more u w
 turn_more events more u v w p failed x t is = record {
@@ -104,6 +130,9 @@ turn_more events more u v w p failed x t is = record {
       (out_did u.pass.number t.turn.unlisted t.turn.pid t.turn.start v.pass w.pass (processes (λ (t : Turn). t.unlisted) x.turns) x.number t.out x.did);
   ended = All-append (λ (t : Turn). t.unlisted ≡ true → has_ended t.start t.sighted ≡ true) x.turns (t.turn ∷ []) x.ended
       (All-cons (λ (t : Turn). t.unlisted ≡ true → has_ended t.start t.sighted ≡ true) t.turn [] t.ended (All-nil (λ (t : Turn). t.unlisted ≡ true → has_ended t.start t.sighted ≡ true)));
+  gone = All-append (AreOut u.pass.history w.pass) x.turns (t.turn ∷ [])
+      (all_out_on u.pass.history x.turns v.pass w.pass (out_begins t.turn.unlisted t.turn.pid t.turn.start v.pass w.pass t.out) (stays_ended t.turn.unlisted t.turn.pid t.turn.start v.pass w.pass t.out) x.gone)
+      (All-cons (AreOut u.pass.history w.pass) t.turn [] (λ ended. out_since u.pass.history v.pass.history t.turn.pid t.turn.start w.pass x.begins (t.gone ended)) (All-nil (AreOut u.pass.history w.pass)));
 }
 
 -- no turn more
@@ -117,6 +146,7 @@ no_turn_more events more u v w x same is = subst (Watching more u) (sym same) (r
   gave = x.gave;
   did = x.did;
   ended = x.ended;
+  gone = x.gone;
 })
 
 -- it looked before one event more
@@ -157,6 +187,7 @@ watched_self (Some v) fresh = record {
   gave = looked_none v.gave;
   did = unlist_none v.pass.number v.pass.history fresh;
   ended = All-nil (λ (t : Turn). t.unlisted ≡ true → has_ended t.start t.sighted ≡ true);
+  gone = All-nil (AreOut v.pass.history v.pass);
 }
 
 -- a sighter that met the connection's pass
@@ -175,4 +206,5 @@ watched_met events p (Some a) (Some b) (Some c) x m = record {
   gave = subst (λ (l : Option (List Look)). AllLooked a.gave l (map look_of x.turns)) (sym m.gave) x.gave;
   did = unlist_learned a.pass.number b.pass c.pass (processes (λ (t : Turn). t.unlisted) x.turns) x.number m.learned x.did;
   ended = x.ended;
+  gone = all_out_on a.pass.history x.turns b.pass c.pass (knows_learned b.pass c.pass m.learned).begins (λ cause is. (m.learned.ended cause is).0) x.gone;
 }

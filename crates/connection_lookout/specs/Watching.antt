@@ -2,11 +2,14 @@
 use Rattle.std.specs.Prelude.{◌≡◌, ◌==◌, ◌⊎◌, ⊤, ℕ, Bool, true, false, not, List, [], ◌∷◌, ◌++◌, Option, None, Some, All, filter, filter_map, map}
 use mathlib.Core.List.{IsPrefix}
 use Rattle.authority_model.specs.declared.event.Event.{Event}
+use Rattle.authority_core.specs.Unlisting.{lists_process}
 use Rattle.authority_model.specs.declared.journal.Item.{Item}
+use Rattle.authority_model.specs.Items.{loaded_of}
 use Rattle.connection_lookout.specs.Unlistings.{DidUnlist}
 use Rattle.history_lock.specs.Calls.{Learned}
 use Rattle.history_lock.specs.Entries.{NoneBy}
 use Rattle.history_lock.specs.Known.{Known}
+use Rattle.history_lock.specs.declared.machine.EndCause.{EndCause}
 use Rattle.pk_outside.specs.declared.sights.Sighted.{Sighted}
 use Rattle.pk_outside.specs.declared.sights.Sighted.TheVariants as sighted
 use Rattle.pk_outside.specs.Sightings.{Look, GivesSighting, Looked}
@@ -78,6 +81,17 @@ AllLooked None (Some after) looks = ⊥
 AllLooked (Some before) None looks = ⊥
 AllLooked (Some before) (Some after) looks = after ≡ before ++ looks
 
+-- Of the histories from the first to the last one whose last load does not list the process.
+pub record LacksProcess (first last : List Item) (pid start : ℕ) : Type 0 where
+  pub known : List Item
+  pub after : IsPrefix first known
+  pub within : IsPrefix known last
+  pub lacks : lists_process (loaded_of (past_of known)) pid start ≡ false
+
+-- After the first history a load did not list the process, as the pass knows; or the pass knows that the lock has ended.
+abbrev pub IsOut : List Item → ℕ → ℕ → Known Item → Type 0
+IsOut first pid start w = LacksProcess first w.history pid start ⊎ ((cause : EndCause) × (w.ended ≡ Some cause))
+
 -- From v to w the sighter looked before these events.
 pub record Watching (events : List Event) (v w : Watch) : Type 0 where
   pub number : w.pass.number ≡ v.pass.number
@@ -91,6 +105,8 @@ pub record Watching (events : List Event) (v w : Watch) : Type 0 where
   pub did : DidUnlist v.pass.number (past_of w.pass.history) (processes (λ t. t.unlisted) turns)
   -- and each of those was seen to have ended
   pub ended : All (λ t. t.unlisted ≡ true → has_ended t.start t.sighted ≡ true) turns
+  -- each process that was seen to have ended is then in no load, unless the lock has ended
+  pub gone : All (λ t. has_ended t.start t.sighted ≡ true → IsOut v.pass.history t.pid t.start w.pass) turns
 
 -- the same of a connection that has a sighter, or has none
 abbrev pub Watched : List Event → Option Watch → Option Watch → Type 0
@@ -118,6 +134,7 @@ pub record TookTurn (p : ℕ × ℕ) (v w : Watch) (failed : Bool) : Type 0 wher
   pub failed_is : has_seen turn.sighted ≡ not failed
   pub out : TookOut turn.unlisted turn.pid turn.start v.pass w.pass
   pub ended : turn.unlisted ≡ true → has_ended turn.start turn.sighted ≡ true
+  pub gone : has_ended turn.start turn.sighted ≡ true → IsOut v.pass.history turn.pid turn.start w.pass
 
 -- a look where a process is named, and none where none is
 abbrev pub LooksAt : Option (ℕ × ℕ) → Watch → Watch → Bool → Type 0

@@ -1,7 +1,7 @@
 // Whether a connection looks at processes, and what it does then.
 ghost use Rattle.std.specs.Prelude.{◌≡◌, ◌≤◌, ℕ, Bool, Some, None, is_err, not};
 ghost use mathlib.Core.List.{IsPrefix};
-ghost use Rattle.connection_lookout.specs.Watching.{Looks, HasMet, TookOut, Watch, watch};
+ghost use Rattle.connection_lookout.specs.Watching.{Looks, HasMet, IsOut, TookOut, Watch, watch};
 ghost use Rattle.connection_lookout.specs.Watching as watching;
 ghost use Rattle.history_lock.specs.Calls.{Learned};
 ghost use Rattle.history_lock.specs.declared.machine.TheConstants.{MOST_PASSES};
@@ -136,7 +136,9 @@ fn take_out<L: LimitsName, T: TableName, R: Wait>(
     pid: u32,
     start: u64,
 )
-    ensures out { (unlisted : Bool) × TookOut unlisted pid start sighter.old sighter.new }
+    ensures out { (unlisted : Bool)
+        × TookOut unlisted pid start sighter.old sighter.new
+        × IsOut sighter.old.history pid start sighter.new }
 {
     match shared.submit_unlist(rt, sighter, 0, pid, start) {
         Ok(_) => {}

@@ -1,6 +1,6 @@
 use Rattle.std.proofs.Common.{false, true, ap, sym, ◌∙◌, refl, inl}
 use Rattle.std.specs.Prelude.{not}
-use Rattle.connection_lookout.proofs.Lookouts.{look_cause, one_look}
+use Rattle.connection_lookout.proofs.Lookouts.{failed_not_ended, living_not_ended, look_cause, one_look}
 use Rattle.connection_lookout.specs.Watching.{Watch, watch}
 use Rattle.connection_lookout.proofs.lookout.ProcessLookoutLookout.look.Goals as goal
 
@@ -11,7 +11,8 @@ returns-then-has_failed g c =
     let w : Watch = watch c.args.sighter.now (g.G.Sights.left s.new.self) (g.G.Sights.gave s.new.self) in
     let failed = c.has_failed.ensures.failed ∙ ap not c.if-has_failed.true in
     record {
-      looks = one_look c.args.event.now c.in-Some.pid c.in-Some.start v w s.result false true (sym c.in-Some.ensures.process) s.ensures.next s.ensures.gave failed (inl refl) (λ is. absurd (cc (is)));
+      looks = one_look c.args.event.now c.in-Some.pid c.in-Some.start v w s.result false true (sym c.in-Some.ensures.process) s.ensures.next s.ensures.gave failed (inl refl) (λ is. absurd (cc (is)))
+          (λ is. absurd (failed_not_ended c.in-Some.start s.result failed is));
       cause = look_cause (g.G.Sights.faults c.args.sights.now) (g.G.Sights.faults s.new.self) s.result true failed s.ensures.cause;
     }
 
@@ -23,7 +24,8 @@ returns-then-has_ended g c =
     let seen = c.has_failed.ensures.failed ∙ ap not c.if-has_failed.false in
     let out = c.take_out.ensures.out in
     record {
-      looks = one_look c.args.event.now c.in-Some.pid c.in-Some.start v w s.result out.0 false (sym c.in-Some.ensures.process) s.ensures.next s.ensures.gave seen out.1 (λ _. sym c.has_ended.ensures.ended ∙ c.if-has_ended.true);
+      looks = one_look c.args.event.now c.in-Some.pid c.in-Some.start v w s.result out.0 false (sym c.in-Some.ensures.process) s.ensures.next s.ensures.gave seen out.1 (λ _. sym c.has_ended.ensures.ended ∙ c.if-has_ended.true)
+          (λ _. out.2);
       cause = look_cause (g.G.Sights.faults c.args.sights.now) (g.G.Sights.faults s.new.self) s.result false seen s.ensures.cause;
     }
 
@@ -34,6 +36,7 @@ returns-else-has_ended g c =
     let w : Watch = watch c.args.sighter.now (g.G.Sights.left s.new.self) (g.G.Sights.gave s.new.self) in
     let seen = c.has_failed.ensures.failed ∙ ap not c.if-has_failed.false in
     record {
-      looks = one_look c.args.event.now c.in-Some.pid c.in-Some.start v w s.result false false (sym c.in-Some.ensures.process) s.ensures.next s.ensures.gave seen (inl refl) (λ is. absurd (cc (is)));
+      looks = one_look c.args.event.now c.in-Some.pid c.in-Some.start v w s.result false false (sym c.in-Some.ensures.process) s.ensures.next s.ensures.gave seen (inl refl) (λ is. absurd (cc (is)))
+          (λ is. absurd (living_not_ended _ (sym c.has_ended.ensures.ended ∙ c.if-has_ended.false) is));
       cause = look_cause (g.G.Sights.faults c.args.sights.now) (g.G.Sights.faults s.new.self) s.result false seen s.ensures.cause;
     }
