@@ -1,6 +1,7 @@
 -- Messages that follow one another.
-use Rattle.std.proofs.Common.{◌≡◌, ℕ, List, [], ◌∷◌, ◌++◌, refl, ap, sym, ◌∙◌, append_assoc, take, drop}
+use Rattle.std.proofs.Common.{◌≡◌, ◌<◌, ℕ, Bool, List, [], ◌∷◌, ◌++◌, refl, ap, sym, ◌∙◌, subst, append_assoc, take, drop, length, length-append, arith}
 use Rattle.std.proofs.lemmas.List.{take-append-drop}
+use Rattle.dbus_values.specs.Form.{Message, message_bytes}
 use Rattle.dbus_values.specs.declared.fault.FaultKind.{FaultKind}
 use Rattle.dbus_values.specs.Next.{Seen, Whole, Partial, Bad, next_of}
 use Rattle.dbus_values.specs.Streams.{IsForm, NoneWhole, Stream}
@@ -39,3 +40,14 @@ none_bad rest kind at bad = λ text more seen form is. other (sym bad ∙ form_w
   where
     other : {seen : Seen} {n : ℕ} → Bad kind at ≡ Whole seen n → ⊥
     other e = cc
+
+-- a message has bytes
+message_some : (big : Bool) (m : Message) → 0 < length (message_bytes big m)
+message_some big m = omega arith
+
+-- so fewer bytes are left behind it
+pub left_fewer : (bytes : List ℕ) (used : ℕ) (m : Seen) → IsForm (take used bytes) m → length (drop used bytes) < length bytes
+left_fewer bytes used m form =
+    let some : 0 < length (take used bytes) = subst (λ (b : List ℕ). 0 < length b) (sym form.1.bytes_are) (message_some form.1.big form.0) in
+    let all : length (take used bytes ++ drop used bytes) ≡ length bytes = ap (λ (b : List ℕ). length b) (take-append-drop used bytes) in
+    omega (arith, some, all, length-append (take used bytes) (drop used bytes))

@@ -1,5 +1,6 @@
 -- What was written of an outbox, and what is left of it.
-use Rattle.std.proofs.Common.{◌≡◌, ◌+◌, ◌≤◌, ℕ, List, Option, take, drop, length, ◌∙◌, ap, subst, drop-drop, length-drop, arith}
+use Rattle.std.proofs.Common.{◌≡◌, ◌+◌, ◌≤◌, ◌++◌, ℕ, List, Option, take, drop, length, ◌∙◌, ap, subst, drop-drop, length-drop, arith}
+use Rattle.std.proofs.lemmas.List.{drop-append-le}
 use Rattle.pk_outside.specs.Streams.{Got, GotUpTo}
 use Rattle.pk_outside.proofs.Written.{GotUpTo-more}
 
@@ -13,3 +14,8 @@ pub still_within : (items rest : List ℕ) (start n : ℕ) → rest ≡ drop sta
 still_within items rest start n is within few =
     let left = ap length is ∙ length-drop start items in
     omega (arith, within, few, left)
+
+-- what was put behind the bytes is behind those that are left
+pub put_behind : (before now message view : List ℕ) (start : ℕ) → drop start before ≡ view → start ≤ length before → now ≡ before ++ message → drop start now ≡ view ++ message
+put_behind before now message view start is within put =
+    ap (drop start) put ∙ drop-append-le start before message within ∙ ap (λ (l : List ℕ). l ++ message) is

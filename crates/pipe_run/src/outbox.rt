@@ -1,13 +1,19 @@
 // What the connection is sent and was not written yet.
-ghost use Rattle.std.specs.Prelude.{◌≡◌, ◌++◌, [], OnOk, OnErr};
+ghost use Rattle.std.specs.Prelude.{◌≡◌, ◌<◌, ◌++◌, [], false, OnOk, OnErr};
 ghost use Rattle.pk_outside.specs.Allowing.{IsFree};
 ghost use Rattle.pk_outside.specs.Causes.{HasCause, FailsLast};
 ghost use Rattle.pk_outside.specs.Streams.{GotUpTo};
+ghost use Rattle.authority_laws.specs.Batches.{IsSendable};
+ghost use Rattle.authority_messages.specs.Messages.{message_for};
+ghost use Rattle.authority_messages.specs.Outgoing.{under};
+ghost use Rattle.dbus_values.specs.Form.{message_bytes};
 
+use authority_model::{History, Output};
 use pk_outside::{Failed, Sink};
 use pk_types::NoMemory;
 use std::alloc::Global;
 use std::marker::Model;
+use usual_replies::put_message_of;
 
 /// With so many bytes it is written, so that it stays short.
 const MANY: usize = 65_536;
@@ -47,13 +53,28 @@ impl Outbox {
         self.bytes.len() >= MANY
     }
 
-    /// Puts bytes behind those that are in it. A refusal leaves it as it was.
-    pub fn put(&mut self, bytes: &[u8]) -> Result<(), NoMemory>
-        ensures ok { OnOk result (self.new ≡ self.old ++ bytes.now) }
-        ensures err { OnErr result (self.new ≡ self.old) }
+    /// Puts the message of an output behind the bytes that are in it. Where memory is refused nothing
+    /// is left in it.
+    pub fn put_message(
+        &mut self,
+        alloc: Global,
+        output: &Output,
+        history: &History,
+        serial: u32,
+    ) -> Result<(), NoMemory>
+        requires sendable { IsSendable output.now.message }
+        requires serial { 0 < serial }
+        ensures put { OnOk result (self.new ≡ self.old ++ message_bytes false (under serial (message_for history.now.loads output.now.message))) }
+        ensures dropped { OnErr result (self.new ≡ []) }
     {
-        self.bytes.extend_from_slice(bytes)?;
-        Ok(())
+        match put_message_of(alloc, output, history, serial, &mut self.bytes) {
+            Ok(()) => Ok(()),
+            Err(NoMemory) => {
+                self.bytes = Vec::new(alloc);
+                self.start = 0;
+                Err(NoMemory)
+            }
+        }
     }
 
     /// Writes all that is in it. Where a write fails, what was not written stays.

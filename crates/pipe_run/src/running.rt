@@ -13,11 +13,12 @@ use crate::ends::{PipeEnd, Stopped};
 use crate::served::{CONNECTION, Served};
 use crate::turning::{depart, open, take_message};
 use authority_model::{Limits, Loaded};
-use dbus_values::{Next, awaited, next_message};
+use dbus_values::awaited;
 use pk_outside::{Clock, Salt, Sink, Source, Tree};
 use pk_types::{NoMemory, Text};
 use source_buffer::{Filled, MessageBuffer};
 use std::alloc::Global;
+use usual_calls::{NextEvent, Usual, next_event};
 
 /// How a run ends whose input ended before so many bytes of a message.
 fn end_of_input<C: Clock, S: Salt, O: Sink>(
@@ -69,15 +70,16 @@ fn serve<T: Tree, C: Clock, S: Salt, I: Source, O: Sink>(
         Ok(buffer) => buffer,
         Err(NoMemory) => return PipeEnd::NoMemory,
     };
+    let mut usual = Usual::new(served.alloc());
     'messages: loop {
-        match next_message(buffer.bytes()) {
-            Next::Whole { message, used } => {
-                match take_message(served, &message, root, tree, clock, salt, output) {
+        match next_event(served.alloc(), &mut usual, buffer.bytes()) {
+            NextEvent::Whole { event, used } => {
+                match take_message(served, event, root, tree, clock, salt, output) {
                     Ok(()) => buffer.take(used),
                     Err(stopped) => return stopped.end(),
                 }
             }
-            Next::Bad { kind, at } => {
+            NextEvent::Bad { kind, at } => {
                 return match served.write_out(output) {
                     Ok(()) => PipeEnd::BadBytes {
                         kind,
@@ -86,7 +88,7 @@ fn serve<T: Tree, C: Clock, S: Salt, I: Source, O: Sink>(
                     Err(stopped) => stopped.end(),
                 };
             }
-            Next::Partial => {
+            NextEvent::Partial => {
                 if let Err(stopped) = served.write_out(output) {
                     return stopped.end();
                 }
@@ -101,6 +103,7 @@ fn serve<T: Tree, C: Clock, S: Salt, I: Source, O: Sink>(
                     Filled::NoMemory => return PipeEnd::NoMemory,
                 }
             }
+            NextEvent::NoMemory => return PipeEnd::NoMemory,
         }
     }
 }

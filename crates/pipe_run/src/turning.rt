@@ -3,7 +3,9 @@ ghost use Rattle.std.specs.Prelude.{◌≡◌, ◌≤◌, ◌^◌, ◌∷◌, []
 ghost use Rattle.pk_outside.specs.Allowing.{IsFree};
 ghost use Rattle.authority_model.specs.Items.{sent};
 ghost use Rattle.authority_model.specs.Legal.{Legal};
-ghost use Rattle.dbus_values.specs.Next.{seen};
+ghost use Rattle.authority_calls.specs.Events.{event_of};
+ghost use Rattle.authority_model.specs.Given.{IsStepped};
+ghost use Rattle.dbus_values.specs.Next.{Seen};
 ghost use Rattle.pipe_run.specs.Answered.{IsSubmittable, WriteFaults, given_of};
 ghost use Rattle.pipe_run.specs.Handed.{awaits_load, awaits_message, loading_given};
 ghost use Rattle.pipe_run.specs.Supplies.{Supply, supply};
@@ -11,9 +13,7 @@ ghost use Rattle.pipe_run.specs.Stages.{IsDeparting, Opens, Turns, standing};
 
 use crate::ends::Stopped;
 use crate::served::{CONNECTION, LOADER, Served, Submission};
-use authority_calls::event_of;
 use authority_model::{Event, Loaded};
-use dbus_values::WireMessage;
 use pk_outside::{Clock, Salt, Sink, Tree};
 use pk_types::Text;
 use policy_load::{LoadRefused, load};
@@ -97,7 +97,7 @@ fn load_again<T: Tree, C: Clock, O: Sink>(
 /// Hands in what a message asks, and loads again where its entry asks for it.
 pub fn take_message<T: Tree, C: Clock, S: Salt, O: Sink>(
     served: &mut Served,
-    message: &WireMessage,
+    event: Event,
     root: &Text,
     tree: &mut T,
     clock: &mut C,
@@ -106,14 +106,14 @@ pub fn take_message<T: Tree, C: Clock, S: Salt, O: Sink>(
 ) -> Result<(), Stopped>
     requires counted { served.old.sent ≡ sent served.old.past CONNECTION }
     requires waits { awaits_message served.old.past ≡ true }
+    requires stepped { IsStepped event }
     requires free { IsFree O.allowed }
-    ensures turned { Turns (T.told tree.old) root.now (standing served.old (T.faults tree.old) (supply (C.left clock.old) (C.gave clock.old)) (supply (S.left salt.old) (S.gave salt.old)) (O.held output.old)) (standing served.new (T.faults tree.new) (supply (C.left clock.new) (C.gave clock.new)) (supply (S.left salt.new) (S.gave salt.new)) (O.held output.new)) (seen message.now ∷ []) result }
+    ensures turned { (message : Seen) → event ≡ event_of message → Turns (T.told tree.old) root.now (standing served.old (T.faults tree.old) (supply (C.left clock.old) (C.gave clock.old)) (supply (S.left salt.old) (S.gave salt.old)) (O.held output.old)) (standing served.new (T.faults tree.new) (supply (C.left clock.new) (C.gave clock.new)) (supply (S.left salt.new) (S.gave salt.new)) (O.held output.new)) (message ∷ []) result }
     ensures counted { OnOk result (served.new.sent ≡ sent served.new.past CONNECTION) }
     ensures waits { OnOk result (awaits_message served.new.past ≡ true) }
     ensures same { T.told tree.new ≡ T.told tree.old }
     ensures faults { WriteFaults O.held O.faults output.old output.new result }
 {
-    let event = event_of(served.alloc(), message)?;
     served.make_room(output)?;
     let moment = clock.now();
     let salt = salt.word();

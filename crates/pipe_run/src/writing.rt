@@ -7,7 +7,6 @@ ghost use Rattle.pipe_run.specs.Bytes.{AreSendableTo, output_bytes};
 
 use crate::outbox::Outbox;
 use crate::served::CONNECTION;
-use authority_messages::message_of;
 use authority_model::{History, Output};
 use pk_types::NoMemory;
 use std::alloc::Global;
@@ -24,8 +23,7 @@ fn put_message(
     requires serial { 0 < serial }
     ensures put { OnOk result (outbox.new ≡ outbox.old ++ message_text history.now.loads serial output.now) }
 {
-    let bytes = message_of(alloc, output, history, serial)?;
-    outbox.put(bytes.as_slice())
+    outbox.put_message(alloc, output, history, serial)
 }
 
 /// Keeps the message of an output, if it goes to the connection, which was sent so many before.

@@ -1,13 +1,14 @@
 -- One more message, more bytes, or an end.
-use Rattle.std.proofs.Common.{◌∙◌, sym, refl, subst, ap, take, ◌++◌, ◌∷◌, List, ℕ, [], length}
+use Rattle.std.proofs.Common.{◌∙◌, ◌<◌, sym, refl, subst, ap, take, drop, ◌++◌, ◌∷◌, List, ℕ, [], length, arith}
 use Rattle.pk_outside.proofs.Written.{Gave-none}
-use Rattle.dbus_values.specs.Next.{next_of, seen}
+use Rattle.dbus_values.specs.Next.{next_of}
 use Rattle.dbus_values.specs.Streams.{IsForm}
 use Rattle.authority_model.specs.Items.{sent}
 use Rattle.pipe_run.specs.declared.served.TheConstants.{CONNECTION}
 use Rattle.pipe_run.specs.Handed.{awaits_message}
+use Rattle.usual_calls.specs.Nexts.{Asks}
 use Rattle.pipe_run.proofs.Exits.{bad_bytes, halted, no_memory, read_fault, write_fault}
-use Rattle.pipe_run.proofs.Following.{next_message}
+use Rattle.pipe_run.proofs.Following.{left_fewer, next_message}
 use Rattle.pipe_run.proofs.Serving.{answered_on, more_read, out_on, still_partial, stopped_writes}
 use Rattle.pipe_run.proofs.Written.{fails_later}
 use Rattle.pipe_run.proofs.running.serve.Goals.{in-Ok-write_out, in-Err-write_out}
@@ -17,10 +18,10 @@ pub returns-in-Err-clause-run : goal.returns-in-Err-clause-run
 returns-in-Err-clause-run g c s told root st = no_memory s _ [] [] [] _ _ _ st refl (Gave-none (g.I.Source.left c.args.input.now))
 
 pub messages-preserved-in-Ok-take_message : goal.messages-preserved-in-Ok-take_message
-messages-preserved-in-Ok-take_message g c = record {
-  running = λ s told root st. answered_on s _ _ _ _ c.messages.buffer c.take.new.self c.in-Whole.used (seen c.in-Whole.message) (c.messages.invariant.running s told root st)
-      (subst (λ (b : List ℕ). IsForm (take c.in-Whole.used b) (seen c.in-Whole.message)) c.bytes.ensures.bytes c.in-Whole.ensures.form) c.take.ensures.taken
-      (λ messages stage. c.in-Ok-take_message.ensures.turned s messages (told ∙ sym c.messages.invariant.told) root stage);
+messages-preserved-in-Ok-take_message g c = let asks : Asks c.bytes.result.now c.in-Whole.event c.in-Whole.used = c.in-Whole.ensures.exact in record {
+  running = λ s told root st. answered_on s _ _ _ _ c.messages.buffer c.take.new.self c.in-Whole.used asks.message (c.messages.invariant.running s told root st)
+      (subst (λ (b : List ℕ). IsForm (take c.in-Whole.used b) asks.message) c.bytes.ensures.bytes asks.form) c.take.ensures.taken
+      (λ messages stage. c.in-Ok-take_message.ensures.turned asks.message asks.asks s messages (told ∙ sym c.messages.invariant.told) root stage);
   counted = c.in-Ok-take_message.ensures.counted;
   waits = c.in-Ok-take_message.ensures.waits;
   told = c.in-Ok-take_message.ensures.same ∙ c.messages.invariant.told;
@@ -31,9 +32,10 @@ messages-preserved-in-Ok-take_message g c = record {
 pub returns-in-Err-take_message-clause-run : goal.returns-in-Err-take_message-clause-run
 returns-in-Err-take_message-clause-run g c s told root st =
     let r = c.messages.invariant.running s told root st in
+    let asks : Asks c.bytes.result.now c.in-Whole.event c.in-Whole.used = c.in-Whole.ensures.exact in
     rw c.end.ensures.end
-    (halted s _ r.messages (r.messages ++ seen c.in-Whole.message ∷ []) c.in-Err-take_message.stopped r.read c.messages.buffer _ _ _ _ (c.in-Err-take_message.ensures.turned s r.messages (told ∙ sym c.messages.invariant.told) root r.stage)
-    r.follow (next_message r.read r.messages c.messages.buffer c.in-Whole.used (seen c.in-Whole.message) r.follow (subst (λ (b : List ℕ). IsForm (take c.in-Whole.used b) (seen c.in-Whole.message)) c.bytes.ensures.bytes c.in-Whole.ensures.form)) r.gave)
+    (halted s _ r.messages (r.messages ++ asks.message ∷ []) c.in-Err-take_message.stopped r.read c.messages.buffer _ _ _ _ (c.in-Err-take_message.ensures.turned asks.message asks.asks s r.messages (told ∙ sym c.messages.invariant.told) root r.stage)
+    r.follow (next_message r.read r.messages c.messages.buffer c.in-Whole.used asks.message r.follow (subst (λ (b : List ℕ). IsForm (take c.in-Whole.used b) asks.message) c.bytes.ensures.bytes asks.form)) r.gave)
 
 pub returns-in-Err-take_message-clause-write : goal.returns-in-Err-take_message-clause-write
 returns-in-Err-take_message-clause-write g c = rw c.end.ensures.end (stopped_writes g.O.Sink.held g.O.Sink.faults _ c.messages.output _ c.in-Err-take_message.stopped c.messages.invariant.wrote c.in-Err-take_message.ensures.faults)
@@ -44,7 +46,7 @@ returns-in-Bad-clause-run g c s told root st =
     elim c.match-write_out.branch [
       | in-Ok-write_out w ↦ rw w.result-is
           (bad_bytes s _ _ _ c.messages.buffer _ c.in-Bad.kind c.in-Bad.at (out_on s _ _ _ _ _ _ _ _ _ _ w.in-Ok-write_out.ensures.written r) (ap awaits_message w.in-Ok-write_out.ensures.written.past ∙ c.messages.invariant.waits) w.in-Ok-write_out.ensures.all
-          (ap next_of (sym c.bytes.ensures.bytes) ∙ sym c.in-Bad.ensures.exact))
+          (ap next_of (sym c.bytes.ensures.bytes) ∙ c.in-Bad.ensures.exact))
       | in-Err-write_out w ↦ let now = out_on s _ _ _ _ _ _ _ _ _ _ w.in-Err-write_out.ensures.written r in rw (w.result-is, w.end-in-Err-write_out.ensures.end)
           (write_fault s _ now.messages now.read c.messages.buffer _ _ _ w.in-Err-write_out.stopped w.in-Err-write_out.ensures.refused now.stage now.follow now.gave)
     ]
@@ -71,7 +73,7 @@ returns-in-End-clause-run g c s told root st =
     let got = c.in-End.ensures.fills in
     c.end_of_input.ensures.run s _ _ _ c.fill.new.self _ (more_read s _ _ _ _ c.messages.buffer c.fill.new.self got.0 (out_on s _ _ _ _ _ _ _ _ _ _ c.in_default.ensures.written (c.messages.invariant.running s told root st)) got.1 got.2.0)
     (still_partial c.bytes-in-Partial.result.now c.messages.buffer c.fill.new.self got.0 c.awaited-wanted.result c.bytes-in-Partial.ensures.bytes
-    (c.in-Partial.ensures.exact ∙ ap next_of (c.bytes.ensures.bytes ∙ sym c.bytes-in-Partial.ensures.bytes)) c.awaited-wanted.ensures.exact got.2.0 got.2.1)
+    (sym c.in-Partial.ensures.exact ∙ ap next_of (c.bytes.ensures.bytes ∙ sym c.bytes-in-Partial.ensures.bytes)) c.awaited-wanted.ensures.exact got.2.0 got.2.1)
     got.2.2 (ap length c.bytes-rest.ensures.bytes)
 
 pub returns-in-ReadFault-clause-run : goal.returns-in-ReadFault-clause-run
@@ -80,14 +82,27 @@ returns-in-ReadFault-clause-run g c s told root st =
     read_fault s _ _ _ c.fill.new.self _ (more_read s _ _ _ _ c.messages.buffer c.fill.new.self got.0 (out_on s _ _ _ _ _ _ _ _ _ _ c.in_default.ensures.written (c.messages.invariant.running s told root st)) got.1 got.2.0)
     (ap awaits_message c.in_default.ensures.written.past ∙ c.messages.invariant.waits) c.in_default.ensures.all
     (still_partial c.bytes-in-Partial.result.now c.messages.buffer c.fill.new.self got.0 c.awaited-wanted.result c.bytes-in-Partial.ensures.bytes
-    (c.in-Partial.ensures.exact ∙ ap next_of (c.bytes.ensures.bytes ∙ sym c.bytes-in-Partial.ensures.bytes)) c.awaited-wanted.ensures.exact got.2.0 got.2.1)
+    (sym c.in-Partial.ensures.exact ∙ ap next_of (c.bytes.ensures.bytes ∙ sym c.bytes-in-Partial.ensures.bytes)) c.awaited-wanted.ensures.exact got.2.0 got.2.1)
 
 pub returns-in-ReadFault-clause-read : goal.returns-in-ReadFault-clause-read
 returns-in-ReadFault-clause-read g c = fails_later g.I.Source.left g.I.Source.faults _ c.messages.input _ c.messages.invariant.read c.in-ReadFault.ensures.faults
 
-pub returns-in-NoMemory-clause-run : goal.returns-in-NoMemory-clause-run
-returns-in-NoMemory-clause-run g c s told root st =
+pub returns-in-NoMemory-fill-clause-run : goal.returns-in-NoMemory-fill-clause-run
+returns-in-NoMemory-fill-clause-run g c s told root st =
     let r = out_on s _ _ _ _ _ _ _ _ _ _ c.in_default.ensures.written (c.messages.invariant.running s told root st) in
-    let got = c.in-NoMemory.ensures.fills in
+    let got = c.in-NoMemory-fill.ensures.fills in
     let more = more_read s _ _ _ _ c.messages.buffer _ got.0 r got.1 refl in
     no_memory s _ more.messages more.read _ _ _ _ more.stage more.follow more.gave
+
+pub returns-in-NoMemory-clause-run : goal.returns-in-NoMemory-clause-run
+returns-in-NoMemory-clause-run g c s told root st =
+    let r = c.messages.invariant.running s told root st in
+    no_memory s _ r.messages r.read _ _ _ _ r.stage r.follow r.gave
+
+pub messages-smaller-in-Ok-take_message : goal.messages-smaller-in-Ok-take_message
+messages-smaller-in-Ok-take_message g c =
+    let asks : Asks c.bytes.result.now c.in-Whole.event c.in-Whole.used = c.in-Whole.ensures.exact in
+    let form : IsForm (take c.in-Whole.used c.messages.buffer) asks.message = subst (λ (b : List ℕ). IsForm (take c.in-Whole.used b) asks.message) c.bytes.ensures.bytes asks.form in
+    let fewer : length (drop c.in-Whole.used c.messages.buffer) < length c.messages.buffer = left_fewer c.messages.buffer c.in-Whole.used asks.message form in
+    let left = ap (λ (b : List ℕ). length b) c.take.ensures.taken in
+    omega (arith, fewer, left)
