@@ -15,7 +15,6 @@ use Rattle.authority_model.specs.declared.load.Loaded.{Loaded}
 use Rattle.authority_model.specs.Items.{items_of}
 use Rattle.pk_outside.specs.Causes.{Rose}
 use Rattle.pk_outside.specs.Streams.{Got, GotFront}
-use Rattle.scenario_text.specs.Skipped.{skipped_lines}
 use Rattle.serve_words.specs.declared.plan.ServePlan.{ServePlan}
 use Rattle.service_slots.specs.declared.line.Line.{Line}
 use Rattle.service_slots.specs.declared.opening.ShutSlot.{ShutSlot}
@@ -30,8 +29,8 @@ use Rattle.policy_load.specs.Loads.{load_of}
 use Rattle.authority_service.specs.declared.top.Unbegun.{Unbegun}
 use Rattle.authority_service.specs.Begun.{HasRun, IsShort, Objects}
 use Rattle.authority_service.specs.Ends.{end_of_refused}
-use Rattle.authority_service.specs.Lines.{service_text}
-use Rattle.authority_service.specs.Printing.{IsPrinted, WasPrinted, WasUntold, WrittenAs}
+use Rattle.authority_service.specs.Lines.{closing_text, opening_text}
+use Rattle.authority_service.specs.Printing.{IsSound, WasPrinted, WasUntold, WrittenAs}
 use Rattle.authority_service.specs.Running.{ended_slot}
 use Rattle.authority_service.proofs.ShutDoors.{rose_before}
 use Rattle.authority_service.specs.Service.{AllServed, HasServed, IsFirst, IsLeft, IsUnbegun, IsUntouched, IsWritten, Left, Outside, Serves, WasWhole, end_of, has_failed_door, has_no_memory, printed}
@@ -121,22 +120,22 @@ all_served limits most w from now (s ∷ slots) stops none memory failed =
     (told_all limits most w from now s.lines.items s.stop (All-head P s slots stops) (All-head Q s slots none) memory_here failed_here)
     (all_served limits most w from now slots (All-tail P s slots stops) (All-tail Q s slots none) memory_there failed_there)
 
--- the text that was written is a front of all that is printed
-wrote_front : (first : Loaded) (left : Left) (h0 h1 h2 : Option (List ℕ)) (f0 f1 : ℕ) (text : List ℕ) (written : Bool) → text ≡ service_text (items_of left.journal) left.lines
-    → Got h0 h1 (skipped_lines first.faults) → WrittenAs h1 h2 f0 f1 text written → GotFront h0 h2 (printed first left)
-wrote_front first left h0 h1 h2 f0 f1 text true is before wrote = got_front h0 h2 (printed first left) (got_both h0 h1 h2 (skipped_lines first.faults) (service_text (items_of left.journal) left.lines) before (subst (λ (t : List ℕ). Got h1 h2 t) is wrote))
-wrote_front first left h0 h1 h2 f0 f1 text false is before wrote = front_both h0 h1 h2 (skipped_lines first.faults) (service_text (items_of left.journal) left.lines) before (subst (λ (t : List ℕ). GotFront h1 h2 t) is wrote.0)
+-- the text that was written is a front of all that is written
+wrote_front : (plan : ServePlan) (first : Loaded) (left : Left) (h0 h1 h2 : Option (List ℕ)) (f0 f1 : ℕ) (written : Bool)
+    → Got h0 h1 (opening_text plan.audit first) → WrittenAs h1 h2 f0 f1 (closing_text plan.audit left.journal left.lines) written → GotFront h0 h2 (printed plan first left)
+wrote_front plan first left h0 h1 h2 f0 f1 true before wrote = got_front h0 h2 (printed plan first left) (got_both h0 h1 h2 (opening_text plan.audit first) (closing_text plan.audit left.journal left.lines) before wrote)
+wrote_front plan first left h0 h1 h2 f0 f1 false before wrote = front_both h0 h1 h2 (opening_text plan.audit first) (closing_text plan.audit left.journal left.lines) before wrote.0
 
 -- the whole text was written
-wrote_whole : (first : Loaded) (left : Left) (h0 h1 h2 : Option (List ℕ)) (f0 f1 : ℕ) (text : List ℕ) → text ≡ service_text (items_of left.journal) left.lines
-    → Got h0 h1 (skipped_lines first.faults) → WrittenAs h1 h2 f0 f1 text true → Got h0 h2 (printed first left)
-wrote_whole first left h0 h1 h2 f0 f1 text is before wrote = got_both h0 h1 h2 (skipped_lines first.faults) (service_text (items_of left.journal) left.lines) before (subst (λ (t : List ℕ). Got h1 h2 t) is wrote)
+wrote_whole : (plan : ServePlan) (first : Loaded) (left : Left) (h0 h1 h2 : Option (List ℕ)) (f0 f1 : ℕ)
+    → Got h0 h1 (opening_text plan.audit first) → WrittenAs h1 h2 f0 f1 (closing_text plan.audit left.journal left.lines) true → Got h0 h2 (printed plan first left)
+wrote_whole plan first left h0 h1 h2 f0 f1 before wrote = got_both h0 h1 h2 (opening_text plan.audit first) (closing_text plan.audit left.journal left.lines) before wrote
 
 -- the text was written whole, or a front of it was and then the output counted a fault
-wrote_so : (first : Loaded) (left : Left) (out : Outside) (h1 : Option (List ℕ)) (faults : ℕ) (text : List ℕ) (written : Bool) → text ≡ service_text (items_of left.journal) left.lines
-    → Got out.held_before h1 (skipped_lines first.faults) → out.write_faults_before ≤ faults → WrittenAs h1 out.held faults out.write_faults text written → IsWritten out (printed first left)
-wrote_so first left out h1 faults text true is before later wrote = inl (wrote_whole first left out.held_before h1 out.held faults out.write_faults text is before wrote)
-wrote_so first left out h1 faults text false is before later wrote = inr (wrote_front first left out.held_before h1 out.held faults out.write_faults text false is before wrote, rose_before out.write_faults_before faults out.write_faults later wrote.1)
+wrote_so : (plan : ServePlan) (first : Loaded) (left : Left) (out : Outside) (h1 : Option (List ℕ)) (faults : ℕ) (written : Bool)
+    → Got out.held_before h1 (opening_text plan.audit first) → out.write_faults_before ≤ faults → WrittenAs h1 out.held faults out.write_faults (closing_text plan.audit left.journal left.lines) written → IsWritten out (printed plan first left)
+wrote_so plan first left out h1 faults true before later wrote = inl (wrote_whole plan first left out.held_before h1 out.held faults out.write_faults before wrote)
+wrote_so plan first left out h1 faults false before later wrote = inr (wrote_front plan first left out.held_before h1 out.held faults out.write_faults false before wrote, rose_before out.write_faults_before faults out.write_faults later wrote.1)
 
 -- the tree and the station of a service
 abbrev pub objects_of : Outside → Objects
@@ -162,9 +161,9 @@ is_left : (plan : ServePlan) (first : Loaded) (out : Outside) (history : History
 is_left plan first out history slots kept run = record { legal = run.legal; within = run.within; licensed = access (items_of history) run.legal.history; slots = run.served; doors = run.back; loaded = lines_or slots run.loaded }
 
 -- the lock was not ended
-was_whole : (plan : ServePlan) (first : Loaded) (out : Outside) (history : History) (slots : List ShutSlot) (text : List ℕ) (run : HasRun plan first (objects_of out) history slots None)
-    → IsPrinted (items_of history) (flat_map (λ s. s.lines.items) slots) (length slots) None text → WasWhole plan out (left_of history slots run.doors)
-was_whole plan first out history slots text run told =
+was_whole : (plan : ServePlan) (first : Loaded) (out : Outside) (history : History) (slots : List ShutSlot) (run : HasRun plan first (objects_of out) history slots None)
+    → IsSound (items_of history) (flat_map (λ s. s.lines.items) slots) (length slots) None → WasWhole plan out (left_of history slots run.doors)
+was_whole plan first out history slots run told =
     let whole = run.whole refl in
     record {
       doors = whole.all.0;
@@ -181,10 +180,10 @@ doors_done plan first out history slots run memory failed =
     stopped.done (all_served plan.limits plan.stop_after stopped.known out.station_faults_before out.station_faults slots stopped.stops stopped.none_ended memory failed)
 
 -- the service was served, and its text was written
-served_so : (plan : ServePlan) (first : Loaded) (out : Outside) (history : History) (slots : List ShutSlot) (kept : Option EndCause) (text : List ℕ) (run : HasRun plan first (objects_of out) history slots kept)
-    → IsFirst plan out first → IsPrinted (items_of history) (flat_map (λ s. s.lines.items) slots) (length slots) kept text
-    → IsWritten out (printed first (left_of history slots run.doors)) → HasServed plan out first (left_of history slots run.doors)
-served_so plan first out history slots kept text run is_first told written = record {
+served_so : (plan : ServePlan) (first : Loaded) (out : Outside) (history : History) (slots : List ShutSlot) (kept : Option EndCause) (run : HasRun plan first (objects_of out) history slots kept)
+    → IsFirst plan out first → IsSound (items_of history) (flat_map (λ s. s.lines.items) slots) (length slots) kept
+    → IsWritten out (printed plan first (left_of history slots run.doors)) → HasServed plan out first (left_of history slots run.doors)
+served_so plan first out history slots kept run is_first told written = record {
   is_first = is_first;
   is_left = is_left plan first out history slots kept run;
   begins = run.begins;
@@ -193,59 +192,59 @@ served_so plan first out history slots kept text run is_first told written = rec
 }
 
 -- how the service ended, by the kept cause, by whether memory was refused to a slot, by whether a door failed, and by whether all was written
-serves_by : (plan : ServePlan) (first : Loaded) (out : Outside) (history : History) (slots : List ShutSlot) (kept : Option EndCause) (text : List ℕ) (h1 : Option (List ℕ)) (faults : ℕ) (run : HasRun plan first (objects_of out) history slots kept)
-    → IsFirst plan out first → IsPrinted (items_of history) (flat_map (λ s. s.lines.items) slots) (length slots) kept text
-    → Got out.held_before h1 (skipped_lines first.faults) → out.write_faults_before ≤ faults
+serves_by : (plan : ServePlan) (first : Loaded) (out : Outside) (history : History) (slots : List ShutSlot) (kept : Option EndCause) (h1 : Option (List ℕ)) (faults : ℕ) (run : HasRun plan first (objects_of out) history slots kept)
+    → IsFirst plan out first → IsSound (items_of history) (flat_map (λ s. s.lines.items) slots) (length slots) kept
+    → Got out.held_before h1 (opening_text plan.audit first) → out.write_faults_before ≤ faults
     → (no_memory failed written : Bool) → list_any (λ s. has_no_memory s.stop) slots ≡ no_memory → list_any (λ s. has_failed_door s.stop) slots ≡ failed
-    → WrittenAs h1 out.held faults out.write_faults text written → Serves plan out (end_of kept slots written)
-serves_by plan first out history slots (Some (cause.JournalFull entries bytes)) text h1 faults run is_first told before later no_memory failed written n d wrote =
+    → WrittenAs h1 out.held faults out.write_faults (closing_text plan.audit history (flat_map (λ s. s.lines.items) slots)) written → Serves plan out (end_of kept slots written)
+serves_by plan first out history slots (Some (cause.JournalFull entries bytes)) h1 faults run is_first told before later no_memory failed written n d wrote =
     let left = left_of history slots run.doors in
-    record { first = first; left = left; served = served_so plan first out history slots (Some (cause.JournalFull entries bytes)) text run is_first told (wrote_so first left out h1 faults text written told.text_is before later wrote); more = run.cause }
-serves_by plan first out history slots (Some (cause.Admissions admitted)) text h1 faults run is_first told before later no_memory failed written n d wrote =
+    record { first = first; left = left; served = served_so plan first out history slots (Some (cause.JournalFull entries bytes)) run is_first told (wrote_so plan first left out h1 faults written before later wrote); more = run.cause }
+serves_by plan first out history slots (Some (cause.Admissions admitted)) h1 faults run is_first told before later no_memory failed written n d wrote =
     let left = left_of history slots run.doors in
     let few = run.few in
     let many = told.passes admitted refl in
-    record { first = first; left = left; served = served_so plan first out history slots (Some (cause.Admissions admitted)) text run is_first told (wrote_so first left out h1 faults text written told.text_is before later wrote); more = (run.cause, omega (arith, few, many)) }
-serves_by plan first out history slots (Some cause.NoMemory) text h1 faults run is_first told before later no_memory failed written n d wrote =
+    record { first = first; left = left; served = served_so plan first out history slots (Some (cause.Admissions admitted)) run is_first told (wrote_so plan first left out h1 faults written before later wrote); more = (run.cause, omega (arith, few, many)) }
+serves_by plan first out history slots (Some cause.NoMemory) h1 faults run is_first told before later no_memory failed written n d wrote =
     let left = left_of history slots run.doors in
-    inr (inr (record { first = first; is_first = is_first; left = left; is_left = is_left plan first out history slots (Some cause.NoMemory) run; begins = run.begins; written = wrote_front first left out.held_before h1 out.held faults out.write_faults text written told.text_is before wrote }))
-serves_by plan first out history slots None text h1 faults run is_first told before later true failed written n d wrote =
+    inr (inr (record { first = first; is_first = is_first; left = left; is_left = is_left plan first out history slots (Some cause.NoMemory) run; begins = run.begins; written = wrote_front plan first left out.held_before h1 out.held faults out.write_faults written before wrote }))
+serves_by plan first out history slots None h1 faults run is_first told before later true failed written n d wrote =
     let left = left_of history slots run.doors in
-    rw n (inr (inr (record { first = first; is_first = is_first; left = left; is_left = is_left plan first out history slots None run; begins = run.begins; written = wrote_front first left out.held_before h1 out.held faults out.write_faults text written told.text_is before wrote })))
-serves_by plan first out history slots None text h1 faults run is_first told before later false true written n d wrote =
+    rw n (inr (inr (record { first = first; is_first = is_first; left = left; is_left = is_left plan first out history slots None run; begins = run.begins; written = wrote_front plan first left out.held_before h1 out.held faults out.write_faults written before wrote })))
+serves_by plan first out history slots None h1 faults run is_first told before later false true written n d wrote =
     let left = left_of history slots run.doors in
     let whole = run.whole refl in
     rw (n, d) (
       any_rose plan.limits plan.stop_after whole.stopped.known out.station_faults_before out.station_faults slots whole.stopped.stops d,
-      inr (record { first = first; left = left; served = served_so plan first out history slots None text run is_first told (wrote_so first left out h1 faults text written told.text_is before later wrote); more = was_whole plan first out history slots text run told }),
+      inr (record { first = first; left = left; served = served_so plan first out history slots None run is_first told (wrote_so plan first left out h1 faults written before later wrote); more = was_whole plan first out history slots run told }),
     )
-serves_by plan first out history slots None text h1 faults run is_first told before later false false true n d wrote =
+serves_by plan first out history slots None h1 faults run is_first told before later false false true n d wrote =
     let left = left_of history slots run.doors in
-    rw (n, d) (record { first = first; left = left; served = served_so plan first out history slots None text run is_first told (wrote_so first left out h1 faults text true told.text_is before later wrote); more = (was_whole plan first out history slots text run told, doors_done plan first out history slots run n d, wrote_whole first left out.held_before h1 out.held faults out.write_faults text told.text_is before wrote) })
-serves_by plan first out history slots None text h1 faults run is_first told before later false false false n d wrote =
+    rw (n, d) (record { first = first; left = left; served = served_so plan first out history slots None run is_first told (wrote_so plan first left out h1 faults true before later wrote); more = (was_whole plan first out history slots run told, doors_done plan first out history slots run n d, wrote_whole plan first left out.held_before h1 out.held faults out.write_faults before wrote) })
+serves_by plan first out history slots None h1 faults run is_first told before later false false false n d wrote =
     let left = left_of history slots run.doors in
     let rose = wrote.1 in
     rw (n, d) (
       omega (arith, later, rose),
-      inr (record { first = first; left = left; served = served_so plan first out history slots None text run is_first told (wrote_so first left out h1 faults text false told.text_is before later wrote); more = (was_whole plan first out history slots text run told, doors_done plan first out history slots run n d) }),
+      inr (record { first = first; left = left; served = served_so plan first out history slots None run is_first told (wrote_so plan first left out h1 faults false before later wrote); more = (was_whole plan first out history slots run told, doors_done plan first out history slots run n d) }),
     )
 
 -- a service whose slots ended, once its lines were printed
 pub serves_told : (plan : ServePlan) (first : Loaded) (out : Outside) (history : History) (slots : List ShutSlot) (kept : Option EndCause) (h1 : Option (List ℕ)) (faults : ℕ) (e : ServiceEnd)
-    → HasRun plan first (objects_of out) history slots kept → IsFirst plan out first → Got out.held_before h1 (skipped_lines first.faults) → out.write_faults_before ≤ faults
-    → WasUntold h1 out.held e ⊎ WasPrinted (items_of history) (flat_map (λ s. s.lines.items) slots) kept slots h1 out.held faults out.write_faults e
+    → HasRun plan first (objects_of out) history slots kept → IsFirst plan out first → Got out.held_before h1 (opening_text plan.audit first) → out.write_faults_before ≤ faults
+    → WasUntold h1 out.held e ⊎ WasPrinted plan.audit history (flat_map (λ s. s.lines.items) slots) kept slots h1 out.held faults out.write_faults e
     → Serves plan out e
 serves_told plan first out history slots kept h1 faults e run is_first before later (inl untold) =
     let left = left_of history slots run.doors in
     subst (λ (x : ServiceEnd). Serves plan out x) (sym untold.end_is)
-    (inr (inr (record { first = first; is_first = is_first; left = left; is_left = is_left plan first out history slots kept run; begins = run.begins; written = front_only out.held_before h1 out.held (skipped_lines first.faults) (service_text (items_of history) left.lines) before untold.same })))
+    (inr (inr (record { first = first; is_first = is_first; left = left; is_left = is_left plan first out history slots kept run; begins = run.begins; written = front_only out.held_before h1 out.held (opening_text plan.audit first) (closing_text plan.audit history left.lines) before untold.same })))
 serves_told plan first out history slots kept h1 faults e run is_first before later (inr told) =
     subst (λ (x : ServiceEnd). Serves plan out x) (sym told.end_is)
-    (serves_by plan first out history slots kept told.text h1 faults run is_first told.printed before later (list_any (λ s. has_no_memory s.stop) slots) (list_any (λ s. has_failed_door s.stop) slots) told.written refl refl told.wrote)
+    (serves_by plan first out history slots kept h1 faults run is_first told.sound before later (list_any (λ s. has_no_memory s.stop) slots) (list_any (λ s. has_failed_door s.stop) slots) told.written refl refl told.wrote)
 
 -- a service that was cut short before there was a connection
 pub unbegun_short : (plan : ServePlan) (first : Loaded) (out : Outside) (objects : Objects) (why : Unbegun) → objects.station_before ≡ out.station_before → objects.station ≡ out.station
-    → IsShort plan objects why → IsFirst plan out first → IsWritten out (skipped_lines first.faults) → IsUnbegun plan out
+    → IsShort plan objects why → IsFirst plan out first → IsWritten out (opening_text plan.audit first) → IsUnbegun plan out
 unbegun_short plan first out objects why before now short is_first written = record {
   first = first;
   is_first = is_first;

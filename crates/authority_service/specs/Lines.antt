@@ -1,8 +1,13 @@
 -- What a service prints of its closed journal.
-use Rattle.std.specs.Prelude.{ℕ, List, [], ◌∷◌, ◌++◌, codes}
+use Rattle.std.specs.Prelude.{ℕ, Bool, true, false, List, [], ◌∷◌, ◌++◌, codes}
 use Rattle.std.specs.Fmt.{decimal}
 use Rattle.std.specs.List.{flat_map}
+use Rattle.authority_model.specs.declared.journal.History.{History}
 use Rattle.authority_model.specs.declared.journal.Item.{Item}
+use Rattle.authority_model.specs.declared.load.Loaded.{Loaded}
+use Rattle.authority_model.specs.Items.{items_of}
+use Rattle.audit_text.specs.Audit.{audit_text}
+use Rattle.scenario_text.specs.Skipped.{skipped_lines}
 use Rattle.connection_serve.specs.declared.ends.End.{End}
 use Rattle.connection_serve.specs.declared.ends.End.TheVariants as end
 use Rattle.journal_scan.specs.declared.counts.Tally.{Tally}
@@ -40,6 +45,16 @@ entries_line totals = codes "entries " ++ (decimal totals.entries ++ (codes " lo
 -- all lines of a history and of the connections that were served
 abbrev pub service_text : List Item → List Line → List ℕ
 service_text past lines = connection_lines past lines ++ entries_line (totals_of past)
+
+-- what a service writes of its first load: what this skipped, or nothing where the audit text is asked for
+abbrev pub opening_text : Bool → Loaded → List ℕ
+opening_text true first = []
+opening_text false first = skipped_lines first.faults
+
+-- what a service writes at its end: all lines, or in their place the audit text of its journal where that is asked for
+abbrev pub closing_text : Bool → History → List Line → List ℕ
+closing_text true journal lines = audit_text journal
+closing_text false journal lines = service_text (items_of journal) lines
 
 -- what a `connection` line tells to whoever looks through the journal
 abbrev pub scanned : Line → ConnectionLine

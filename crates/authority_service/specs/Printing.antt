@@ -1,6 +1,8 @@
 -- What a service prints at its end.
 use Rattle.std.specs.Prelude.{◌≡◌, ◌≤◌, ◌+◌, ◌*◌, ℕ, Bool, true, false, List, Option, None, Some, length, map}
+use Rattle.authority_model.specs.declared.journal.History.{History}
 use Rattle.authority_model.specs.declared.journal.Item.{Item}
+use Rattle.authority_model.specs.Items.{items_of}
 use Rattle.history_lock.specs.declared.machine.EndCause.{EndCause}
 use Rattle.history_lock.specs.declared.machine.EndCause.TheVariants as cause
 use Rattle.journal_scan.specs.declared.counts.TheConstants.{PLACES}
@@ -12,12 +14,11 @@ use Rattle.service_slots.specs.declared.line.Line.{Line}
 use Rattle.service_slots.specs.declared.opening.ShutSlot.{ShutSlot}
 use Rattle.authority_service.specs.declared.ends.ServiceEnd.{ServiceEnd}
 use Rattle.authority_service.specs.declared.ends.ServiceEnd.TheVariants as end
-use Rattle.authority_service.specs.Lines.{scanned, service_text}
+use Rattle.authority_service.specs.Lines.{closing_text, scanned}
 use Rattle.authority_service.specs.Service.{AreAllLoads, end_of}
 
--- The text of the lines, once the journal was found to be orderly and its counts to fit the kept cause.
-pub record IsPrinted (past : List Item) (lines : List Line) (slots : ℕ) (kept : Option EndCause) (text : List ℕ) : Type 0 where
-  pub text_is : text ≡ service_text past lines
+-- The journal was found to be orderly, and its counts to fit the kept cause.
+pub record IsSound (past : List Item) (lines : List Line) (slots : ℕ) (kept : Option EndCause) : Type 0 where
   pub orderly : IsOrderly (map scanned lines) past
   pub loads : kept ≡ None → AreAllLoads (totals_of past)
   pub passes : (admitted : ℕ) → kept ≡ Some (cause.Admissions admitted) → PLACES ≤ 2 * length lines + 3 * slots + 2
@@ -27,13 +28,12 @@ abbrev pub WrittenAs : Option (List ℕ) → Option (List ℕ) → ℕ → ℕ �
 WrittenAs before after faults_before faults text true = Got before after text
 WrittenAs before after faults_before faults text false = GotFront before after text × Rose faults_before faults
 
--- The lines were printed, whole or a front of them, and the end is chosen.
-pub record WasPrinted (past : List Item) (lines : List Line) (kept : Option EndCause) (slots : List ShutSlot) (before after : Option (List ℕ)) (faults_before faults : ℕ) (e : ServiceEnd) : Type 0 where
-  pub text : List ℕ
-  pub printed : IsPrinted past lines (length slots) kept text
+-- The journal was found to be sound. Then the closing text was written, whole or a front of it, and the end is chosen.
+pub record WasPrinted (audit : Bool) (journal : History) (lines : List Line) (kept : Option EndCause) (slots : List ShutSlot) (before after : Option (List ℕ)) (faults_before faults : ℕ) (e : ServiceEnd) : Type 0 where
+  pub sound : IsSound (items_of journal) lines (length slots) kept
   pub written : Bool
   pub end_is : e ≡ end_of kept slots written
-  pub wrote : WrittenAs before after faults_before faults text written
+  pub wrote : WrittenAs before after faults_before faults (closing_text audit journal lines) written
 
 -- Nothing was written, since memory was refused.
 pub record WasUntold (before after : Option (List ℕ)) (e : ServiceEnd) : Type 0 where

@@ -17,7 +17,6 @@ use Rattle.pk_outside.specs.Stations.{DoorBack, StationTold}
 use Rattle.pk_outside.specs.Streams.{Got, GotFront}
 use Rattle.pk_outside.specs.Trees.{TreeTold}
 use Rattle.policy_load.specs.Loads.{load_of}
-use Rattle.scenario_text.specs.Skipped.{skipped_lines}
 use Rattle.serve_words.specs.declared.plan.ServePlan.{ServePlan}
 use Rattle.service_slots.specs.declared.line.Line.{Line}
 use Rattle.service_slots.specs.declared.opening.ShutSlot.{ShutSlot}
@@ -31,7 +30,7 @@ use Rattle.authority_service.specs.declared.ends.ServiceEnd.{ServiceEnd}
 use Rattle.authority_service.specs.declared.ends.ServiceEnd.TheVariants as end
 use Rattle.authority_service.specs.Beginning.{BeginsWith}
 use Rattle.authority_service.specs.Causes.{FitsJournal}
-use Rattle.authority_service.specs.Lines.{scanned, service_text}
+use Rattle.authority_service.specs.Lines.{closing_text, opening_text, scanned}
 use Rattle.authority_service.specs.Places.{first_doors, opened_behind}
 use Rattle.authority_service.specs.Running.{HasLoaded, LoadsAll}
 
@@ -87,9 +86,9 @@ pub record IsLeft (plan : ServePlan) (out : Outside) (left : Left) : Type 0 wher
   pub doors : DoorsBack plan left.doors out.station_before out.station
   pub loaded : (left.lines ≡ []) ⊎ HasLoaded plan.limits out.tree plan.root (in_order left.journal)
 
--- what a service prints: what the first load skipped, and then the lines of the journal and of the connections
-abbrev pub printed : Loaded → Left → List ℕ
-printed first left = skipped_lines first.faults ++ service_text (items_of left.journal) left.lines
+-- what a service writes: what the first load skipped, and then the lines of the journal and of the connections; or in place of all of these the audit text of the journal
+abbrev pub printed : ServePlan → Loaded → Left → List ℕ
+printed plan first left = opening_text plan.audit first ++ closing_text plan.audit left.journal left.lines
 
 -- The text was written whole, or a front of it was, and then the output counted a fault.
 abbrev pub IsWritten : Outside → List ℕ → Type 0
@@ -105,7 +104,7 @@ pub record HasServed (plan : ServePlan) (out : Outside) (first : Loaded) (left :
   pub is_left : IsLeft plan out left
   pub begins : BeginsWith first (in_order left.journal)
   pub orderly : IsOrderly (map scanned left.lines) (items_of left.journal)
-  pub written : IsWritten out (printed first left)
+  pub written : IsWritten out (printed plan first left)
 
 -- how many slots a plan has
 abbrev pub slots_of : ServePlan → ℕ
@@ -136,14 +135,14 @@ pub record IsUntouched (out : Outside) : Type 0 where
   pub station_faults : out.station_faults ≡ out.station_faults_before
   pub held : out.held ≡ out.held_before
 
--- No connection was served: the doors that were made came back as they were, and what the first load skipped was written.
+-- No connection was served: the doors that were made came back as they were, and what is written of the first load was written.
 pub record IsUnbegun (plan : ServePlan) (out : Outside) : Type 0 where
   pub first : Loaded
   pub is_first : IsFirst plan out first
   pub doors : ℕ
   pub back : DoorsBack plan doors out.station_before out.station
   pub unserved : SlotsOf [] out.station_before [] → SlotsOf [] out.station []
-  pub written : IsWritten out (skipped_lines first.faults)
+  pub written : IsWritten out (opening_text plan.audit first)
 
 -- Memory was refused, whenever that was: nothing was served, or what was left is as always.
 pub record WasCutShort (plan : ServePlan) (out : Outside) : Type 0 where
@@ -152,7 +151,7 @@ pub record WasCutShort (plan : ServePlan) (out : Outside) : Type 0 where
   pub left : Left
   pub is_left : IsLeft plan out left
   pub begins : BeginsWith first (in_order left.journal)
-  pub written : GotFront out.held_before out.held (printed first left)
+  pub written : GotFront out.held_before out.held (printed plan first left)
 
 -- a service that was served, of which more holds
 pub record Ended (plan : ServePlan) (out : Outside) (More : Loaded → Left → Type 0) : Type 0 where
@@ -168,7 +167,7 @@ Serves plan out (end.LoadRefused refused) = IsUntouched out × IfSome out.tree (
 Serves plan out end.NoMemory = IsUntouched out ⊎ (IsUnbegun plan out ⊎ WasCutShort plan out)
 Serves plan out end.DoorFault = Rose out.station_faults_before out.station_faults × (IsUnbegun plan out ⊎ Ended plan out (λ first left. WasWhole plan out left))
 Serves plan out end.WriteFault = Rose out.write_faults_before out.write_faults × (IsUnbegun plan out ⊎ Ended plan out (λ first left. WasWhole plan out left × AllServed plan out))
-Serves plan out end.Done = Ended plan out (λ first left. WasWhole plan out left × AllServed plan out × Got out.held_before out.held (printed first left))
+Serves plan out end.Done = Ended plan out (λ first left. WasWhole plan out left × AllServed plan out × Got out.held_before out.held (printed plan first left))
 Serves plan out (end.JournalFull entries bytes) = Ended plan out (λ first left. FitsJournal plan.limits (cause.JournalFull entries bytes) (in_order left.journal))
 Serves plan out (end.Admissions admitted) = Ended plan out (λ first left. FitsJournal plan.limits (cause.Admissions admitted) (in_order left.journal) × AdmitsAll plan left)
 

@@ -2,13 +2,15 @@
 ghost use Rattle.std.specs.Prelude.{◌≡◌, ◌++◌, ◌∷◌, [], IfOk, List, OnOk, codes, map, string_bytes};
 ghost use Rattle.std.specs.List.{flat_map};
 ghost use Rattle.authority_model.specs.declared.journal.Item.{Item};
-ghost use Rattle.authority_service.specs.Lines.{connection_line, connection_lines, end_word, entries_line, scanned, service_text};
+ghost use Rattle.authority_service.specs.Lines.{connection_line, connection_lines, end_word, entries_line, opening_text, scanned, service_text};
 ghost use Rattle.journal_scan.specs.Counts.{tally_of};
 ghost use Rattle.journal_scan.specs.Orderly.{AreCounts};
 
+use authority_model::Loaded;
 use connection_serve::End;
 use journal_scan::{ConnectionLine, Counts, Totals};
 use pk_types::{ByteList, List, NoMemory};
+use scenario_text::skipped_text;
 use service_slots::{Line, ShutSlot};
 use std::alloc::{AllocError, Global};
 
@@ -62,6 +64,20 @@ fn push_totals(text: &mut String, totals: &Totals) -> Result<(), AllocError>
     let loads = totals.loads;
     let refused = totals.refused;
     write!(text, "entries {entries} loads {loads} refused {refused}\n")
+}
+
+/// What a service tells of its first load: the lines of what this skipped, or nothing where the audit text is
+/// asked for.
+///
+/// # Errors
+/// `NoMemory` alone.
+pub fn opening_text(alloc: Global, audit: bool, first: &Loaded) -> Result<ByteList, NoMemory>
+    ensures text { IfOk result (λ text. text ≡ opening_text audit first.now) }
+{
+    if audit {
+        return Ok(List::new(alloc));
+    }
+    skipped_text(alloc, first.faults.as_slice())
 }
 
 /// What a service prints of its closed journal, with these counts, and of these connections.

@@ -9,7 +9,7 @@ ghost use Rattle.authority_service.specs.Running.{HasLoaded, LoadsAll, ended_slo
 ghost use Rattle.authority_service.specs.Shutting.{ShutsAll};
 ghost use Rattle.history_lock.specs.Known.{Known};
 ghost use Rattle.authority_model.specs.declared.journal.Item.{Item};
-ghost use Rattle.pk_outside.specs.Allowing.{IsFree};
+ghost use Rattle.connection_serve.specs.Promises.{MayServe};
 ghost use Rattle.pk_outside.specs.Doors.{DoorTold};
 ghost use Rattle.service_slots.specs.Doors.{made_of, DoorsAreDone};
 ghost use Rattle.service_slots.specs.Served.{SlotOf, SlotsOf};
@@ -88,7 +88,7 @@ where
     requires new { All (λ s. NoneEnded s.lines.items) slots.items }
     requires none { shut.items ≡ [] }
     requires room { vec_len slots ≤ vec_capacity shut }
-    requires free_door { IsFree N.Door.Link.Out.allowed }
+    requires may_serve { MayServe N.Door.Link.Out.allowed }
     ensures legal { IsJournal (in_order result.authority.history) }
     ensures within { length result.authority.history.entries ≤ L.limits.entries }
     ensures begins { IsPrefix zero.history (in_order result.authority.history) }

@@ -1,21 +1,27 @@
-// What a service prints at its end, and how it ends.
-ghost use Rattle.std.specs.Prelude.{◌≡◌, ◌≤◌, ◌+◌, ◌*◌, ◌⊎◌, ℕ, IfOk, IsTrue, None, Some, flat_map, length};
+// What a service writes at its end, and how it ends.
+ghost use Rattle.std.specs.Prelude.{◌≡◌, ◌≤◌, ◌+◌, ◌*◌, ◌⊎◌, ℕ, IfOk, IsTrue, List, None, OnErr, OnOk, Some, flat_map, length};
 ghost use Rattle.std.specs.List.{list_any};
 ghost use Rattle.pk_outside.specs.Allowing.{IsFree};
 ghost use Rattle.authority_model.specs.Items.{items_of};
 ghost use Rattle.authority_service.specs.Service.{AreAllLoads, end_of, end_of_stops, has_failed_door, has_no_memory};
-ghost use Rattle.authority_service.specs.Printing.{IsPrinted, WasPrinted, WasUntold};
+ghost use Rattle.authority_service.specs.Printing.{IsSound, WasPrinted, WasUntold, WrittenAs};
+ghost use Rattle.authority_service.specs.Lines.{closing_text, service_text};
+ghost use Rattle.authority_model.specs.declared.journal.Item.{Item};
+ghost use Rattle.audit_text.specs.Audit.{audit_text};
+ghost use Rattle.journal_scan.specs.Orderly.{AreCounts};
 ghost use Rattle.history_lock.specs.declared.machine.EndCause.TheVariants as cause;
 ghost use Rattle.journal_scan.specs.declared.counts.TheConstants.{PLACES};
 
 use crate::ends::ServiceEnd;
 use crate::lines::{all_lines, scanned_lines, service_text};
 use crate::running::Ran;
+use audit_text::{AuditWriteRefused, write};
+use authority_model::History;
 use history_lock::EndCause;
-use journal_scan::{PLACES, Totals, scan_journal};
+use journal_scan::{Counts, PLACES, Totals, scan_journal};
 use pk_outside::{Sink, write_all};
-use pk_types::{ByteList, NoMemory};
-use service_slots::{ShutSlot, SlotStop};
+use pk_types::NoMemory;
+use service_slots::{Line, ShutSlot, SlotStop};
 use std::alloc::Global;
 
 /// Whether as many loads were made as were wanted before the Stop, besides the first.
@@ -81,6 +87,40 @@ fn end_of_stops(slots: &[ShutSlot], written: bool) -> ServiceEnd
     }
 }
 
+/// What was found in a closed journal: the line of each connection, and what is counted of it.
+#[derive(Drop)]
+struct Found {
+    lines: Vec<Line>,
+    counts: Counts,
+}
+
+/// Writes the lines that were found. Whether all were written.
+#[tactic(auto, using(pk_outside::proofs::Going::may_go_free))]
+fn write_lines<O: Sink>(alloc: Global, found: &Found, output: &mut O) -> Result<bool, NoMemory>
+    requires free { IsFree O.allowed }
+    ensures wrote { IfOk result (λ written. (past : List Item) → AreCounts past found.now.counts →
+        WrittenAs (O.held output.old) (O.held output.new) (O.faults output.old) (O.faults output.new) (service_text past found.now.lines.items) written) }
+    ensures refused { OnErr result (O.held output.new ≡ O.held output.old) }
+    ensures later { O.faults output.old ≤ O.faults output.new }
+{
+    let text = service_text(alloc, found.lines.as_slice(), &found.counts)?;
+    Ok(write_all(output, text.as_slice()).is_ok())
+}
+
+/// Writes the audit text of a journal. Whether all was written.
+fn write_audit<O: Sink>(alloc: Global, journal: &History, output: &mut O) -> Result<bool, NoMemory>
+    requires free { IsFree O.allowed }
+    ensures wrote { IfOk result (WrittenAs (O.held output.old) (O.held output.new) (O.faults output.old) (O.faults output.new) (audit_text journal.now)) }
+    ensures refused { OnErr result (O.held output.new ≡ O.held output.old) }
+    ensures later { O.faults output.old ≤ O.faults output.new }
+{
+    match write(alloc, journal, output) {
+        Ok(()) => Ok(true),
+        Err(AuditWriteRefused::WriteFault) => Ok(false),
+        Err(AuditWriteRefused::NoMemory) => Err(NoMemory),
+    }
+}
+
 impl Ran {
     /// Whether the counts of the journal fit the kept cause. They always do.
     fn fits(&self, totals: &Totals, lines: usize) -> bool
@@ -108,13 +148,15 @@ impl Ran {
         }
     }
 
-    /// The text of the lines, once the facts that no connection can know by itself were found in the
-    /// journal. They always are.
+    /// The lines of the connections and the counts of the journal, once the facts that no connection can
+    /// know by itself were found in it. They always are.
     ///
     /// # Errors
     /// `NoMemory` alone.
-    fn printed(&self, alloc: Global) -> Result<ByteList, NoMemory>
-        ensures printed { IfOk result (IsPrinted (items_of self.now.authority.history) (flat_map (λ s. s.lines.items) self.now.slots.items) (length self.now.slots.items) self.now.cause) }
+    fn found(&self, alloc: Global) -> Result<Found, NoMemory>
+        ensures sound { OnOk result (IsSound (items_of self.now.authority.history) (flat_map (λ s. s.lines.items) self.now.slots.items) (length self.now.slots.items) self.now.cause) }
+        ensures lines { IfOk result (λ found. found.lines.items ≡ flat_map (λ s. s.lines.items) self.now.slots.items) }
+        ensures counts { IfOk result (λ found. AreCounts (items_of self.now.authority.history) found.counts) }
     {
         let lines = all_lines(alloc, self.slots.as_slice())?;
         let scanned = scanned_lines(alloc, lines.as_slice())?;
@@ -125,21 +167,47 @@ impl Ran {
         if !self.fits(&counts.totals, lines.len()) {
             return Err(NoMemory);
         }
-        service_text(alloc, lines.as_slice(), &counts)
+        Ok(Found { lines, counts })
     }
 
-    /// Prints the lines, and answers how the service ended.
-    #[tactic(auto, using(pk_outside::proofs::Going::may_go_free))]
-    pub fn tell<O: Sink>(&self, alloc: Global, output: &mut O) -> ServiceEnd
+    /// Writes the lines that were found, or the audit text of the journal in their place. Whether all was
+    /// written.
+    ///
+    /// # Errors
+    /// `NoMemory` alone, and then nothing was written.
+    fn write_closing<O: Sink>(
+        &self,
+        alloc: Global,
+        audit: bool,
+        found: &Found,
+        output: &mut O,
+    ) -> Result<bool, NoMemory>
         requires free { IsFree O.allowed }
-        ensures told { WasUntold (O.held output.old) (O.held output.new) result
-            ⊎ WasPrinted (items_of self.now.authority.history) (flat_map (λ s. s.lines.items) self.now.slots.items) self.now.cause self.now.slots.items (O.held output.old) (O.held output.new) (O.faults output.old) (O.faults output.new) result }
+        requires counts { AreCounts (items_of self.now.authority.history) found.now.counts }
+        ensures wrote { IfOk result (WrittenAs (O.held output.old) (O.held output.new) (O.faults output.old) (O.faults output.new) (closing_text audit self.now.authority.history found.now.lines.items)) }
+        ensures refused { OnErr result (O.held output.new ≡ O.held output.old) }
         ensures later { O.faults output.old ≤ O.faults output.new }
     {
-        let Ok(text) = self.printed(alloc) else {
+        if audit {
+            write_audit(alloc, self.authority.history(), output)
+        } else {
+            write_lines(alloc, found, output)
+        }
+    }
+
+    /// Writes the closing text, and answers how the service ended.
+    pub fn tell<O: Sink>(&self, alloc: Global, audit: bool, output: &mut O) -> ServiceEnd
+        requires free { IsFree O.allowed }
+        ensures told { WasUntold (O.held output.old) (O.held output.new) result
+            ⊎ WasPrinted audit self.now.authority.history (flat_map (λ s. s.lines.items) self.now.slots.items) self.now.cause self.now.slots.items (O.held output.old) (O.held output.new) (O.faults output.old) (O.faults output.new) result }
+        ensures later { O.faults output.old ≤ O.faults output.new }
+    {
+        let Ok(found) = self.found(alloc) else {
             return ServiceEnd::NoMemory;
         };
-        let written = write_all(output, text.as_slice()).is_ok();
-        self.end(written)
+        match self.write_closing(alloc, audit, &found, output) {
+            Ok(written) => self.end(written),
+            Err(NoMemory) => ServiceEnd::NoMemory,
+        }
     }
 }

@@ -3,6 +3,7 @@ ghost use Rattle.std.specs.Prelude.{◌≡◌, ◌≢◌, ◌≤◌, [], IfErr, 
 ghost use mathlib.Core.List.{IsPrefix};
 ghost use Rattle.authority_model.specs.declared.load.Loaded.{Loaded};
 ghost use Rattle.pk_outside.specs.Allowing.{IsFree};
+ghost use Rattle.connection_serve.specs.Promises.{MayServe};
 ghost use Rattle.pk_outside.specs.Trees.{TreeTold};
 ghost use Rattle.policy_load.specs.Loads.{load_of};
 ghost use Rattle.authority_model.specs.Peers.{uid_of};
@@ -16,6 +17,7 @@ ghost use Rattle.shared_authority.specs.Journals.{past_of};
 use crate::admitting::{PassesRefused, admit_one, admit_passes};
 use crate::beginning::enter_first;
 use crate::ends::ServiceEnd;
+use crate::lines::opening_text;
 use crate::opening::open_slots;
 use crate::running::{Ran, run_slots};
 use crate::shutting::shut_slots;
@@ -23,7 +25,6 @@ use authority_model::Loaded;
 use history_lock::{Opened, Pass, TableName, open_table};
 use pk_outside::{Failed, Sink, Station, StationRefused, Tree, write_all};
 use policy_load::{LoadRefused, load_beside};
-use scenario_text::skipped_text;
 use serve_words::ServePlan;
 use shared_authority::{Kept, LimitsName, Shared};
 use std::alloc::Global;
@@ -78,7 +79,7 @@ where
     requires some { zero.history ≢ [] }
     requires prefix { IsPrefix zero.history control.history }
     requires passes { vec_len passes ≡ slots_of plan.now }
-    requires free_door { IsFree N.Door.Link.Out.allowed }
+    requires may_serve { MayServe N.Door.Link.Out.allowed }
     ensures ran { IfOk result (λ ran. (first : Loaded) → BeginsWith first zero.history
         → HasRun plan.now first (objects (F.told tree.old) (N.told station.old) (N.told station.new) (N.faults station.old) (N.faults station.new))
         ran.authority.history ran.slots.items ran.cause) }
@@ -130,7 +131,7 @@ where
     requires zero { zero.number ≡ 0 }
     requires fresh { uid_of (past_of zero.history) 0 ≡ None }
     requires some { zero.history ≢ [] }
-    requires free_door { IsFree N.Door.Link.Out.allowed }
+    requires may_serve { MayServe N.Door.Link.Out.allowed }
     ensures ran { IfOk result (λ ran. (first : Loaded) → BeginsWith first zero.history
         → HasRun plan.now first (objects (F.told tree.old) (N.told station.old) (N.told station.new) (N.faults station.old) (N.faults station.new))
         ran.authority.history ran.slots.items ran.cause) }
@@ -169,7 +170,7 @@ where
     requires allowed { IsAllowed plan.now }
     requires limits { plan.now.limits ≡ L.limits }
     requires table { opened ≡ T.table }
-    requires free_door { IsFree N.Door.Link.Out.allowed }
+    requires may_serve { MayServe N.Door.Link.Out.allowed }
     ensures ran { IfOk result (λ ran. HasRun plan.now first (objects (F.told tree.old) (N.told station.old) (N.told station.new) (N.faults station.old) (N.faults station.new))
         ran.authority.history ran.slots.items ran.cause) }
     ensures short { IfErr result (IsShort plan.now (objects (F.told tree.old) (N.told station.old) (N.told station.new) (N.faults station.old) (N.faults station.new))) }
@@ -199,7 +200,7 @@ where
     R: Threads + Wait + Sync,
     requires allowed { IsAllowed plan.now }
     requires limits { plan.now.limits ≡ L.limits }
-    requires free_door { IsFree N.Door.Link.Out.allowed }
+    requires may_serve { MayServe N.Door.Link.Out.allowed }
     ensures ran { IfOk result (λ ran. HasRun plan.now first (objects (F.told tree.old) (N.told station.old) (N.told station.new) (N.faults station.old) (N.faults station.new))
         ran.authority.history ran.slots.items ran.cause) }
     ensures short { IfErr result (IsShort plan.now (objects (F.told tree.old) (N.told station.old) (N.told station.new) (N.faults station.old) (N.faults station.new))) }
@@ -210,7 +211,8 @@ where
     run_tabled::<L, Brand, F, N, R>(rt, alloc, plan, first, tree, station, opened)
 }
 
-/// Writes what the first load skipped, serves the slots, and prints the lines.
+/// Writes what the first load skipped, serves the slots, and writes the closing text; where the audit text
+/// is asked for it stands in place of all lines.
 #[tactic(auto, using(pk_outside::proofs::Going::may_go_free))]
 fn serve_loaded<F, N, O, R>(
     rt: &R,
@@ -228,12 +230,12 @@ where
     R: Threads + Wait + Sync,
     requires allowed { IsAllowed plan.now }
     requires free { IsFree O.allowed }
-    requires free_door { IsFree N.Door.Link.Out.allowed }
+    requires may_serve { MayServe N.Door.Link.Out.allowed }
     ensures served { (told : Option TreeTold) (from : ℕ) → told ≡ F.told tree.old → IfSome told (λ t. load_of t plan.now.root ≡ Ok first)
         → Serves plan.now (outside told from (F.faults tree.new) (N.told station.old) (N.told station.new)
         (N.faults station.old) (N.faults station.new) (O.held output.old) (O.held output.new) (O.faults output.old) (O.faults output.new)) result }
 {
-    let Ok(lines) = skipped_text(alloc, first.faults.as_slice()) else {
+    let Ok(lines) = opening_text(alloc, plan.audit, &first) else {
         return ServiceEnd::NoMemory;
     };
     match write_all(output, lines.as_slice()) {
@@ -241,7 +243,7 @@ where
         Err(Failed) => return ServiceEnd::WriteFault,
     }
     match run_named::<Brand, F, N, R>(rt, alloc, plan, first, tree, station) {
-        Ok(ran) => ran.tell(alloc, output),
+        Ok(ran) => ran.tell(alloc, plan.audit, output),
         Err(Unbegun::DoorFault) => ServiceEnd::DoorFault,
         Err(Unbegun::NoMemory) => ServiceEnd::NoMemory,
     }
@@ -259,7 +261,8 @@ fn end_of_refused(refused: LoadRefused) -> ServiceEnd
 }
 
 /// Serves the connections of the doors of a plan, from the first load of the tree to the lines that
-/// are printed at the end.
+/// are printed at the end. Where the plan asks for the audit text of the closed journal, this is written in
+/// place of all lines.
 ///
 /// On `Done` each door had no link left, or has taken back as many links as each slot was to serve.
 ///
@@ -280,7 +283,7 @@ where
     R: Threads + Wait + Sync,
     requires allowed { IsAllowed plan.now }
     requires free { IsFree O.allowed }
-    requires free_door { IsFree N.Door.Link.Out.allowed }
+    requires may_serve { MayServe N.Door.Link.Out.allowed }
     ensures served { Serves plan.now (outside (F.told tree.old) (F.faults tree.old) (F.faults tree.new) (N.told station.old) (N.told station.new)
         (N.faults station.old) (N.faults station.new) (O.held output.old) (O.held output.new) (O.faults output.old) (O.faults output.new)) result }
 {

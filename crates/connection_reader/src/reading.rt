@@ -8,17 +8,16 @@ ghost use Rattle.connection_reader.specs.Stops.{end_of, IsStoppedBy, ReadsOn, St
 
 use crate::ends::{ReadStop, ReaderEnd, end_of};
 use crate::handing::{Answerer, hand_in};
-use authority_calls::event_of;
 use authority_model::Event;
 use connection_writer::{Begun, Desk};
-use dbus_values::{Next, awaited, next_message};
+use dbus_values::awaited;
 use history_lock::{EndCause, Pass, TableName};
 use pk_outside::{Clock, Salt, Sink, Source};
-use pk_types::NoMemory;
 use shared_authority::{Kept, LimitsName, Shared};
 use source_buffer::{Filled, MessageBuffer};
 use std::alloc::Global;
 use std::sync::{Mutex, Wait};
+use usual_calls::{NextEvent, Usual, next_event};
 
 /// Reads on behind less than a message, until as many bytes are there as are awaited.
 fn read_on<I: Source>(source: &mut I, buffer: &mut MessageBuffer) -> Option<ReadStop>
@@ -75,6 +74,7 @@ fn read_next<L: LimitsName, T: TableName, R: Wait, I: Source, C: Clock, S: Salt,
     source: &mut I,
     buffer: &mut MessageBuffer,
     since_read: &mut SinceRead,
+    usual: &mut Usual,
     desk: &Mutex<Desk<'_, L, T, O, B>>,
 ) -> Result<Option<ReadStop>, EndCause>
     ensures reads { (uid : ℕ) (s : Hand) → IsUnderway uid s (hand pass.old (I.left source.old) (C.gave clock.old) (S.gave salt.old) buffer.old)
@@ -85,23 +85,20 @@ fn read_next<L: LimitsName, T: TableName, R: Wait, I: Source, C: Clock, S: Salt,
     ensures later { I.faults source.old ≤ I.faults source.new }
     ensures same { I.origin source.new ≡ I.origin source.old }
 {
-    match next_message(buffer.bytes()) {
-        Next::Whole { message, used } => {
-            let event = match event_of(alloc, &message) {
-                Ok(event) => event,
-                Err(NoMemory) => return Ok(Some(ReadStop::NoMemory)),
-            };
+    match next_event(alloc, usual, buffer.bytes()) {
+        NextEvent::Whole { event, used } => {
             buffer.take(used);
             let by = answerer(*since_read, buffer.bytes().len());
             *since_read = SinceRead::Something;
             hand_in(rt, shared, pass, clock, salt, event, by, desk)?;
             Ok(None)
         }
-        Next::Bad { kind, at } => Ok(Some(ReadStop::BadBytes { kind, at })),
-        Next::Partial => {
+        NextEvent::Bad { kind, at } => Ok(Some(ReadStop::BadBytes { kind, at })),
+        NextEvent::Partial => {
             *since_read = SinceRead::Nothing;
             Ok(read_on(source, buffer))
         }
+        NextEvent::NoMemory => Ok(Some(ReadStop::NoMemory)),
     }
 }
 
@@ -138,6 +135,7 @@ fn read_messages<
     ensures same { I.origin source.new ≡ I.origin source.old }
 {
     let mut since_read = SinceRead::Nothing;
+    let mut usual = Usual::new(alloc);
     for _turn in rt.forever() {
         match read_next(
             rt,
@@ -149,6 +147,7 @@ fn read_messages<
             source,
             buffer,
             &mut since_read,
+            &mut usual,
             desk,
         )? {
             None => {}

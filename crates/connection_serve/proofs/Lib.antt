@@ -2,5 +2,6 @@ pub mod Causes
 pub mod Fresh
 pub mod Greetings
 pub mod Meeting
+pub mod Promising
 pub mod Returning
 pub mod Serving

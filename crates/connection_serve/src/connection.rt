@@ -1,7 +1,7 @@
 // One connection, from its first byte to its end.
 ghost use Rattle.std.specs.Prelude.{◌≡◌};
-ghost use Rattle.pk_outside.specs.Allowing.{IsFree};
 ghost use Rattle.connection_serve.specs.Headline.{IsCollected, IsFresh, Serves};
+ghost use Rattle.connection_serve.specs.Promises.{MaySend};
 
 use crate::ends::End;
 use crate::halves::serve_messages;
@@ -52,7 +52,8 @@ pub fn serve_connection<
 ) -> End
     // The passes have different numbers other than 0, know one history, and have no entry in it.
     requires fresh { IsFresh pass.old collector.old }
-    requires free { IsFree O.allowed }
+    // Each prefix of a talk with this connection may be written.
+    requires may { MaySend O.allowed (O.held sink.old) uid collector.old.number pass.old.number }
     // What was entered for the connection, what was read and written, and why it ended.
     ensures served { Serves L.limits uid pass.old pass.new (I.left source.old) (I.left source.new) (O.held sink.old) (O.held sink.new)
         (C.gave clock.old) (C.gave clock.new) (S.gave salt.old) (S.gave salt.new) (I.faults source.old) (I.faults source.new) (O.faults sink.old) (O.faults sink.new) result }

@@ -1,9 +1,9 @@
 // The two halves of a connection, beside each other.
 ghost use Rattle.std.specs.Prelude.{◌≡◌, ◌≢◌, ℕ, Option as TheOption, List as TheList};
-ghost use Rattle.pk_outside.specs.Allowing.{IsFree};
 ghost use Rattle.authority_model.specs.declared.journal.Item.{Item};
 ghost use Rattle.connection_reader.specs.Reading.{ReadFaults, ReadsTo, hand};
 ghost use Rattle.connection_serve.specs.Halves.{Meets};
+ghost use Rattle.connection_writer.specs.Promises.{Began, MayAnswer};
 ghost use Rattle.connection_writer.specs.Writing.{StandsAt, WritesTo};
 ghost use Rattle.history_lock.specs.Entries.{NoneBy};
 ghost use Rattle.history_lock.specs.Known.{Known};
@@ -112,7 +112,7 @@ fn read_with_writer<
     requires names { (collector.ghost_name ≡ B.pass_name) × (sink.ghost_name ≡ B.sink_name) }
     requires stands { StandsAt L.limits B.of B.held B.faults B.pass (O.held sink.old) (O.faults sink.old) collector.old None }
     requires fresh { NoneBy caller_of pass.old.number pass.old.history }
-    requires free { IsFree O.allowed }
+    requires may { MayAnswer O.allowed B.held B.pass.number B.of }
     ensures names { let (collector, sink, end, read) = result in (collector.ghost_name ≡ B.pass_name) × (sink.ghost_name ≡ B.sink_name) }
     ensures stands { let (collector, sink, end, read) = result in StandsAt L.limits B.of B.held B.faults B.pass (O.held sink.now) (O.faults sink.now) collector.now end }
     ensures reads { let (collector, sink, end, read) = result in ReadsTo L.limits uid (hand pass.old (I.left source.old) (C.gave clock.old) (S.gave salt.old) buffer.old)
@@ -152,7 +152,7 @@ fn finish<L: LimitsName, T: TableName, O: Sink, R: Wait>(
     end: Option<WriterEnd>,
 ) -> WriterEnd
     requires connection { of ≢ 0 }
-    requires free { IsFree O.allowed }
+    requires began { Began L.limits O.allowed of (O.held sink.old) (O.faults sink.old) collector.old end }
     ensures { (v : Known Item) (held : TheOption (TheList ℕ)) (faults : ℕ)
         → StandsAt L.limits of held faults v (O.held sink.old) (O.faults sink.old) collector.old end
         → WritesTo L.limits of held faults v (O.held sink.new) (O.faults sink.new) collector.new result }
@@ -193,7 +193,7 @@ fn beside<
     requires number { of ≡ pass.old.number }
     requires fresh { NoneBy caller_of pass.old.number pass.old.history }
     requires fresh_collector { NoneBy caller_of collector.old.number collector.old.history }
-    requires free { IsFree O.allowed }
+    requires may { MayAnswer O.allowed (O.held sink.old) collector.old.number of }
     ensures reads { let (wrote, read) = result in ReadsTo L.limits uid (hand pass.old (I.left source.old) (C.gave clock.old) (S.gave salt.old) buffer.old)
         (hand pass.new (I.left source.new) (C.gave clock.new) (S.gave salt.new) buffer.new) (I.ended source.new) read }
     ensures faults { let (wrote, read) = result in ReadFaults I.left I.faults source.old source.new read }
@@ -235,7 +235,7 @@ pub fn serve_messages<
     requires connection { pass.old.number ≢ 0 }
     requires fresh { NoneBy caller_of pass.old.number pass.old.history }
     requires fresh_collector { NoneBy caller_of collector.old.number collector.old.history }
-    requires free { IsFree O.allowed }
+    requires may { MayAnswer O.allowed (O.held sink.old) collector.old.number pass.old.number }
     ensures meets { Meets L.limits uid (hand pass.old (I.left source.old) (C.gave clock.old) (S.gave salt.old) buffer.old)
         (hand pass.new (I.left source.new) (C.gave clock.new) (S.gave salt.new) buffer.new) (I.ended source.new) collector.old collector.new
         (O.held sink.old) (O.held sink.new) (I.faults source.old) (I.faults source.new) (O.faults sink.old) (O.faults sink.new) result }

@@ -1,6 +1,6 @@
 // The opening of a connection.
-ghost use Rattle.std.specs.Prelude.{◌≡◌};
-ghost use Rattle.pk_outside.specs.Allowing.{IsFree};
+ghost use Rattle.std.specs.Prelude.{◌≡◌, []};
+ghost use Rattle.link_opening.specs.Replying.{MayReply};
 ghost use Rattle.connection_serve.specs.Halves.{Greets};
 
 use crate::ends::End;
@@ -21,7 +21,7 @@ pub fn greet<I: Source, O: Sink>(
     source: &mut I,
     sink: &mut O,
 ) -> Result<MessageBuffer, End>
-    requires free { IsFree O.allowed }
+    requires may { MayReply O.allowed (O.held sink.old) uid guid [] }
     ensures greets { Greets uid guid (I.left source.old) (I.left source.new) (O.held sink.old) (O.held sink.new) (I.faults source.old) (I.faults source.new) (O.faults sink.old) (O.faults sink.new) result }
     ensures origin { I.origin source.new ≡ I.origin source.old }
 {

@@ -2,3 +2,4 @@ pub mod Collecting
 pub mod Texts
 pub mod Writes
 pub mod Written
+pub mod Promising

@@ -110,12 +110,17 @@ batch_texts n v w w' b e is own =
     let here : IsPrefix b.loads loads = subst (λ (l : List Loaded). IsPrefix l loads) (sym is.loads) (subst (λ (l : List Loaded). IsPrefix (take (greatest_load b.outputs) (loads_in past)) l) (sym (loads_same v.number n w w' own e)) (take_prefix (greatest_load b.outputs) (loads_in past))) in
     (λ i. texts loads (sym is.from i) (sym is.outputs i)) ∙ texts_prefix b.loads loads b.from b.outputs here (batch_named past v.number n b is)
 
+-- with them what was taken is what had been taken, and the messages of the batch
+pub batch_more : (P : List ℕ → Type 0) (n : ℕ) (v w w' : Known Item) (batch : Batch) → Writing false P n v w → (e : Entered w (collect_given v.number n) w') → IsBatch (past_of e.learned.grown.before) v.number n batch.from batch.outputs batch.loads
+    → taken_texts (past_of w'.history) v.number n ≡ taken_texts (past_of w.history) v.number n ++ texts batch.loads batch.from batch.outputs
+batch_more P n v w w' batch s e is = entered_texts P n v w w' s e ∙ ap (λ (l : List ℕ). taken_texts (past_of w.history) v.number n ++ l) (batch_texts n v w w' batch e is s.knows.number)
+
 -- a batch was collected and written
 pub batch_written : (a b c : Option (List ℕ)) (n : ℕ) (v w w' : Known Item) (batch : Batch) → Writing false (Got a b) n v w → TookBatch w n batch w' → Got b c (texts batch.loads batch.from batch.outputs) → Writing false (Got a c) n v w'
 batch_written a b c n v w w' batch s t got =
     let own = took_own n v w w' batch s.knows.number t in
     writes_entered false (Got a b) (Got a c) n v w w' s own.0 (ap are_none (sym own.1.outputs) ∙ some_found batch.outputs own.2)
-    (subst (Got a c) (sym (entered_texts (Got a b) n v w w' s own.0 ∙ ap (λ (l : List ℕ). taken_texts (past_of w.history) v.number n ++ l) (batch_texts n v w w' batch own.0 own.1 s.knows.number)))
+    (subst (Got a c) (sym (batch_more (Got a b) n v w w' batch s own.0 own.1))
     (Got-more a b c (taken_texts (past_of w.history) v.number n) (texts batch.loads batch.from batch.outputs) s.wrote got))
 
 -- a batch was collected, and a prefix of it was written
@@ -124,7 +129,7 @@ batch_front a b c n v w w' batch s t front =
     let own = took_own n v w w' batch s.knows.number t in
     writes_entered false (Got a b) (GotFront a c) n v w w' s own.0 (ap are_none (sym own.1.outputs) ∙ some_found batch.outputs own.2)
     (front_behind a b c (taken_texts (past_of w'.history) v.number n) (taken_texts (past_of w.history) v.number n) (texts batch.loads batch.from batch.outputs)
-    (entered_texts (Got a b) n v w w' s own.0 ∙ ap (λ (l : List ℕ). taken_texts (past_of w.history) v.number n ++ l) (batch_texts n v w w' batch own.0 own.1 s.knows.number)) s.wrote front)
+    (batch_more (Got a b) n v w w' batch s own.0 own.1) s.wrote front)
 
 -- nothing is left for a connection
 pub took_none : (n : ℕ) (v w w' : Known Item) (is : w.number ≡ v.number) → TookNothing w n w' → (e : Entered w (collect_given v.number n) w') × (batch (past_of e.learned.grown.before) v.number n ≡ [])

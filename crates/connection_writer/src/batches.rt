@@ -1,6 +1,6 @@
 // Writes the messages of a batch.
 ghost use Rattle.std.specs.Prelude.{◌≡◌, ◌+◌, ◌<◌, ◌≤◌, ◌++◌, [], OnOk, length};
-ghost use Rattle.pk_outside.specs.Allowing.{IsFree};
+ghost use Rattle.pk_outside.specs.Allowing.{MayFronts, MayGo};
 ghost use Rattle.authority_laws.specs.Batches.{AreSendable, IsSendable};
 ghost use Rattle.authority_messages.specs.Texts.{message_text, texts};
 ghost use Rattle.connection_writer.specs.Writing.{IsWritable};
@@ -19,9 +19,8 @@ use usual_replies::put_message_of;
 const WRITE_BYTES: usize = 65536;
 
 /// Writes the bytes that are ready.
-#[tactic(auto, using(pk_outside::proofs::Going::may_go_free))]
 fn write_ready<O: Sink>(ready: &mut Vec<u8>, sink: &mut O) -> Result<(), WriteStop>
-    requires free { IsFree O.allowed }
+    requires may { MayGo O.allowed (O.held sink.old) ready.old.items }
     ensures writes { Writes (O.held sink.old) (O.held sink.new) ready.old.items result }
     ensures empty { OnOk result (ready.new.items ≡ []) }
     ensures later { O.faults sink.old ≤ O.faults sink.new }
@@ -43,7 +42,7 @@ fn add_message<O: Sink>(
 ) -> Result<(), WriteStop>
     requires sendable { IsSendable output.now.message }
     requires serial { 0 < serial }
-    requires free { IsFree O.allowed }
+    requires may { MayFronts O.allowed (O.held sink.old) (ready.old.items ++ message_text history.now.loads serial output.now) }
     ensures writes { WritesUpTo (O.held sink.old) (O.held sink.new) (ready.old.items ++ message_text history.now.loads serial output.now) ready.new.items result }
     ensures later { O.faults sink.old ≤ O.faults sink.new }
     ensures stopped { HasStopped (O.faults sink.old) (O.faults sink.new) result }
@@ -69,7 +68,7 @@ fn add_messages<O: Sink>(
     requires first { 0 < first }
     requires few { first + length outputs.now ≤ MAX_NUMBER }
     requires sendable { AreSendable outputs.now }
-    requires free { IsFree O.allowed }
+    requires may { MayFronts O.allowed (O.held sink.old) (ready.old.items ++ texts history.now.loads first outputs.now) }
     ensures writes { WritesUpTo (O.held sink.old) (O.held sink.new) (ready.old.items ++ texts history.now.loads first outputs.now) ready.new.items result }
     ensures later { O.faults sink.old ≤ O.faults sink.new }
     ensures stopped { HasStopped (O.faults sink.old) (O.faults sink.new) result }
@@ -85,7 +84,7 @@ fn add_messages<O: Sink>(
 /// Writes the messages of a batch, in few writes.
 pub fn write_batch<O: Sink>(alloc: Global, batch: Batch, sink: &mut O) -> Result<(), WriteStop>
     requires writable { IsWritable batch }
-    requires free { IsFree O.allowed }
+    requires may { MayFronts O.allowed (O.held sink.old) (texts batch.loads batch.from batch.outputs) }
     ensures writes { Writes (O.held sink.old) (O.held sink.new) (texts batch.loads batch.from batch.outputs) result }
     ensures later { O.faults sink.old ≤ O.faults sink.new }
     ensures stopped { HasStopped (O.faults sink.old) (O.faults sink.new) result }

@@ -1,8 +1,8 @@
 // The desk at which the two threads of a connection write.
 ghost use Rattle.std.specs.Prelude.{◌≡◌, ◌≢◌, ◌≤◌, ◌^◌, IfOk, IfErr};
-ghost use Rattle.pk_outside.specs.Allowing.{IsFree};
 ghost use Rattle.authority_model.specs.Given.{IsStepped, event_given};
 ghost use Rattle.shared_authority.specs.Passes.{Submitted, SubmitIsRefused};
+ghost use Rattle.connection_writer.specs.Promises.{MayAnswer};
 ghost use Rattle.connection_writer.specs.Writing.{StandsAt};
 
 use crate::writer::Writer;
@@ -64,7 +64,7 @@ pub struct Desk<'a, L: LimitsName, T: TableName, O: Sink, B: Begun> {
 
 impl<'a, L: LimitsName, T: TableName, O: Sink, B: Begun> Model for Desk<'a, L, T, O, B> {
     ghost use Rattle.std.specs.Prelude.{◌≡◌, ◌≢◌};
-    ghost use Rattle.pk_outside.specs.Allowing.{IsFree};
+    ghost use Rattle.connection_writer.specs.Promises.{MayAnswer};
     ghost use Rattle.connection_writer.specs.Writing.{StandsAt};
 
     ghost Value = { Unit {0} };
@@ -76,16 +76,16 @@ impl<'a, L: LimitsName, T: TableName, O: Sink, B: Begun> Model for Desk<'a, L, T
         × (d.writer.pass.ghost_name ≡ B.pass_name)
         × (d.writer.sink.ghost_name ≡ B.sink_name)
         × StandsAt L.limits B.of B.held B.faults B.pass (O.held d.writer.sink.now) (O.faults d.writer.sink.now) d.writer.pass.now d.writer.end
-        × IsFree O.allowed };
+        × MayAnswer O.allowed B.held B.pass.number B.of };
 }
 
 impl<'a, L: LimitsName, T: TableName, O: Sink, B: Begun> Desk<'a, L, T, O, B> {
-    /// A desk with this writer, which began so.
+    /// A desk with this writer, which began so, and may write what is sent to its connection.
     pub fn new(writer: Writer<'a, L, T, O>) -> Desk<'a, L, T, O, B>
         requires of { (writer.of ≡ B.of) × (B.of ≢ 0) }
         requires names { (writer.pass.ghost_name ≡ B.pass_name) × (writer.sink.ghost_name ≡ B.sink_name) }
         requires stands { StandsAt L.limits B.of B.held B.faults B.pass (O.held writer.sink.now) (O.faults writer.sink.now) writer.pass.now writer.end }
-        requires free { IsFree O.allowed }
+        requires may { MayAnswer O.allowed B.held B.pass.number B.of }
     {
         Desk {
             writer,

@@ -1,12 +1,12 @@
 // The loop of the writing half.
 ghost use Rattle.std.specs.Prelude.{◌≡◌, ◌≢◌, ◌≤◌, ◌^◌, ℕ, None, IfOk, IfErr, Option as TheOption, List as TheList};
-ghost use Rattle.pk_outside.specs.Allowing.{IsFree};
 ghost use Rattle.authority_model.specs.declared.journal.Item.{Item};
 ghost use Rattle.history_lock.specs.Entries.{NoneBy};
 ghost use Rattle.history_lock.specs.Known.{Known};
 ghost use Rattle.authority_model.specs.Given.{IsStepped, event_given};
 ghost use Rattle.shared_authority.specs.Journals.{caller_of};
 ghost use Rattle.shared_authority.specs.Passes.{CollectsNow, Submitted, SubmitIsRefused};
+ghost use Rattle.connection_writer.specs.Promises.{Began, MayAnswer};
 ghost use Rattle.connection_writer.specs.Writing.{StandsAt, WritesTo, end_in};
 
 use crate::batches::write_batch;
@@ -35,8 +35,8 @@ fn write_collected<L: LimitsName, T: TableName, O: Sink, R: Wait>(
     now: CollectedNow,
     sink: &mut O,
 ) -> Result<bool, WriterEnd>
-    requires collects { (before : Known Item) × (of : ℕ) × (of ≢ 0) × CollectsNow L.limits before of now pass.old }
-    requires free { IsFree O.allowed }
+    requires collects { (before : Known Item) × (of : ℕ) × (of ≢ 0) × CollectsNow L.limits before of now pass.old
+        × Began L.limits O.allowed of (O.held sink.old) (O.faults sink.old) before None }
     ensures stands { (before v : Known Item) (of : ℕ) (held : TheOption (TheList ℕ)) (faults : ℕ)
         → CollectsNow L.limits before of now pass.old
         → StandsAt L.limits of held faults v (O.held sink.old) (O.faults sink.old) before None
@@ -76,7 +76,7 @@ fn write_next<L: LimitsName, T: TableName, O: Sink, R: Wait>(
     sink: &mut O,
 ) -> Result<bool, WriterEnd>
     requires connection { of ≢ 0 }
-    requires free { IsFree O.allowed }
+    requires began { Began L.limits O.allowed of (O.held sink.old) (O.faults sink.old) pass.old None }
     ensures stands { (v : Known Item) (held : TheOption (TheList ℕ)) (faults : ℕ)
         → StandsAt L.limits of held faults v (O.held sink.old) (O.faults sink.old) pass.old None
         → StandsAt L.limits of held faults v (O.held sink.new) (O.faults sink.new) pass.new (end_in result) }
@@ -97,7 +97,7 @@ fn write_ready<L: LimitsName, T: TableName, O: Sink, R: Wait>(
     sink: &mut O,
 ) -> Option<WriterEnd>
     requires connection { of ≢ 0 }
-    requires free { IsFree O.allowed }
+    requires began { Began L.limits O.allowed of (O.held sink.old) (O.faults sink.old) pass.old None }
     ensures stands { (v : Known Item) (held : TheOption (TheList ℕ)) (faults : ℕ)
         → StandsAt L.limits of held faults v (O.held sink.old) (O.faults sink.old) pass.old None
         → StandsAt L.limits of held faults v (O.held sink.new) (O.faults sink.new) pass.new result }
@@ -126,7 +126,7 @@ pub fn write_on<L: LimitsName, T: TableName, O: Sink, R: Wait>(
     sink: &mut O,
 ) -> WriterEnd
     requires connection { of ≢ 0 }
-    requires free { IsFree O.allowed }
+    requires began { Began L.limits O.allowed of (O.held sink.old) (O.faults sink.old) pass.old None }
     ensures stands { (v : Known Item) (held : TheOption (TheList ℕ)) (faults : ℕ)
         → StandsAt L.limits of held faults v (O.held sink.old) (O.faults sink.old) pass.old None
         → WritesTo L.limits of held faults v (O.held sink.new) (O.faults sink.new) pass.new result }
@@ -156,7 +156,7 @@ pub fn write_answers<L: LimitsName, T: TableName, O: Sink, R: Wait>(
 ) -> WriterEnd
     requires connection { of ≢ 0 }
     requires fresh { NoneBy caller_of pass.old.number pass.old.history }
-    requires free { IsFree O.allowed }
+    requires may { MayAnswer O.allowed (O.held sink.old) pass.old.number of }
     ensures writes { WritesTo L.limits of (O.held sink.old) (O.faults sink.old) pass.old (O.held sink.new) (O.faults sink.new) pass.new result }
     ensures later { O.faults sink.old ≤ O.faults sink.new }
 {
@@ -184,7 +184,7 @@ impl<'a, L: LimitsName, T: TableName, O: Sink> Writer<'a, L, T, O> {
     /// Collects what is there and writes it, unless writing has ended.
     pub(crate) fn write_ready<R: Wait>(&mut self, rt: &R, shared: &Shared<L, T>)
         requires of { self.old.of ≢ 0 }
-        requires free { IsFree O.allowed }
+        requires began { Began L.limits O.allowed self.old.of (O.held self.old.sink.now) (O.faults self.old.sink.now) self.old.pass.now self.old.end }
         ensures stands { (v : Known Item) (held : TheOption (TheList ℕ)) (faults : ℕ)
             → StandsAt L.limits self.old.of held faults v (O.held self.old.sink.now) (O.faults self.old.sink.now) self.old.pass.now self.old.end
             → StandsAt L.limits self.old.of held faults v (O.held self.new.sink.now) (O.faults self.new.sink.now) self.new.pass.now self.new.end }
@@ -212,7 +212,7 @@ impl<'a, L: LimitsName, T: TableName, O: Sink> Writer<'a, L, T, O> {
         requires of { self.old.of ≢ 0 }
         requires event { IsStepped event }
         requires moment { moment ≤ 2 ^ 62 }
-        requires free { IsFree O.allowed }
+        requires began { Began L.limits O.allowed self.old.of (O.held self.old.sink.now) (O.faults self.old.sink.now) self.old.pass.now self.old.end }
         ensures ok { IfOk result (λ place. Submitted pass.old (event_given pass.old.number moment salt event) place pass.new) }
         ensures err { IfErr result (λ refused. SubmitIsRefused L.limits pass.old event refused pass.new) }
         ensures stands { (v : Known Item) (held : TheOption (TheList ℕ)) (faults : ℕ)

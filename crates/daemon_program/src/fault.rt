@@ -19,6 +19,8 @@ pub(crate) enum Form {
     User,
     /// A number from 1 to this one.
     UpTo(u64),
+    /// None: the option stands alone.
+    Nothing,
 }
 
 /// How often a part comes.
@@ -32,12 +34,12 @@ pub(crate) enum Times {
     Repeated,
 }
 
-/// A part of a command: an option with its value, or a value alone.
+/// A part of a command: an option with its value, a value alone, or an option alone.
 #[derive(Clone, Copy)]
 pub(crate) struct Part {
     /// The option. It is empty where the value stands alone.
     option: &'static str,
-    /// What the usage calls the value.
+    /// What the usage calls the value. It is empty where the option stands alone.
     value: &'static str,
     form: Form,
     times: Times,
@@ -107,7 +109,14 @@ const PIPE: [Part; 3] = [
     ENTRIES,
 ];
 
-const SERVE: [Part; 5] = [
+const AUDIT: Part = Part {
+    option: "--audit",
+    value: "",
+    form: Form::Nothing,
+    times: Times::Perhaps,
+};
+
+const SERVE: [Part; 6] = [
     ROOT,
     Part {
         option: "--door",
@@ -128,6 +137,7 @@ const SERVE: [Part; 5] = [
         times: Times::Perhaps,
     },
     ENTRIES,
+    AUDIT,
 ];
 
 const LOAD: [Part; 1] = [Part {
@@ -150,6 +160,7 @@ impl Form {
             Form::Door => is_door(value.bytes()),
             Form::User => number(value.bytes()).is_some(),
             Form::UpTo(greatest) => positive(value.bytes(), greatest).is_some(),
+            Form::Nothing => false,
         }
     }
 }
@@ -179,10 +190,12 @@ impl Part {
             [option, rest @ ..] => {
                 if self.option.is_empty() {
                     self.value_in(words)
-                } else if option.bytes() == self.option.as_bytes() {
-                    self.value_in(rest)
-                } else {
+                } else if option.bytes() != self.option.as_bytes() {
                     Beginning::Other
+                } else if self.value.is_empty() {
+                    Beginning::Part { rest }
+                } else {
+                    self.value_in(rest)
                 }
             }
         }
@@ -249,6 +262,7 @@ impl fmt::Display for Form {
             Form::Door => write!(f, "a number of 32 bits, ':' and a path"),
             Form::User => write!(f, "a number of 32 bits"),
             Form::UpTo(greatest) => write!(f, "a number from 1 to {greatest}"),
+            Form::Nothing => write!(f, "no value"),
         }
     }
 }
@@ -257,6 +271,8 @@ impl fmt::Display for Part {
     fn fmt<W: fmt::Write>(&self, f: &mut fmt::Formatter<W>) -> fmt::Result {
         if self.option.is_empty() {
             write!(f, "'{}'", self.value)
+        } else if self.value.is_empty() {
+            write!(f, "'{}'", self.option)
         } else {
             write!(f, "'{} {}'", self.option, self.value)
         }

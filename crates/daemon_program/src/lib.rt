@@ -4,7 +4,7 @@
 //! and the streams on, and tells how it ended.
 #![tactic(auto)]
 
-ghost use Rattle.pk_outside.specs.Allowing.{IsFree};
+ghost use Rattle.connection_serve.specs.Promises.{MayServe};
 
 mod fault;
 
@@ -26,7 +26,7 @@ const TEXTS: ProgramTexts = ProgramTexts {
        polkitd audit [--root DIR] [--entries K]
        polkitd pipe UID --root DIR [--entries K]
        polkitd serve --root DIR --door UID:PATH {--door UID:PATH} --slots N [--stop-after K]
-                     [--entries K]
+                     [--entries K] [--audit]
        polkitd load N
 
 replay  runs the scenario on standard input, and writes its answers to standard output
@@ -44,6 +44,7 @@ serve   listens at Unix sockets, serves many connections at once, and answers al
         --slots N        each door serves N connections at once; slots times doors is 1 to 64
         --stop-after K   each slot ends after K connections, 1 to 1000000
         --entries K      as for replay
+        --audit          writes at the end the whole journal as an audit text, in place of all lines
 load N  runs N generated checks, 1 to 100000, and writes what they come to to standard output
 
 Options, each alone:
@@ -87,7 +88,7 @@ where
     R::Reader: Send,
     T: Tree,
     N: Station,
-    requires free_door { IsFree N.Door.Link.Out.allowed }
+    requires may_serve { MayServe N.Door.Link.Out.allowed }
 {
     let words = match words(rt) {
         Ok(words) => words,
@@ -125,7 +126,7 @@ where
     R::Reader: Send,
     T: Tree,
     N: Station,
-    requires free_door { IsFree N.Door.Link.Out.allowed }
+    requires may_serve { MayServe N.Door.Link.Out.allowed }
 {
     let status = command(rt, tree, station);
     match status {

@@ -42,7 +42,7 @@ front_of_reply guid replies r others before held now got front = (
 )
 
 module _ (door guid : ℕ) (bytes : List ℕ) (before held : Option (List ℕ)) (h now : Shaking) (b : ℕ) (so : Fed door guid bytes before held h) where
-  one_more : (s : ShakeStep) → (over h ≡ None → (more : List ℕ) → to_come h (b ∷ more) ≡ said s (to_come now more)) → (more : List ℕ)
+  pub one_more : (s : ShakeStep) → (over h ≡ None → (more : List ℕ) → to_come h (b ∷ more) ≡ said s (to_come now more)) → (more : List ℕ)
       → shake door ((bytes ++ b ∷ []) ++ more) ≡ replies_first so.replies (said s (to_come now more))
   one_more s takes more = ap (shake door) (append_assoc bytes (b ∷ []) more) ∙ so.answered (b ∷ more) ∙ ap (replies_first so.replies) (takes so.goes_on more)
 

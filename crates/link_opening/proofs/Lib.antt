@@ -1,2 +1,3 @@
 mod Fed
 mod Rounds
+mod Replying

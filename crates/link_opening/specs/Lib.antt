@@ -1,2 +1,3 @@
 pub mod Feeds
 pub mod Opens
+pub mod Replying

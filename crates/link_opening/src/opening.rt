@@ -1,8 +1,8 @@
 // The opening of a link, round by round.
 ghost use Rattle.std.specs.Prelude.{◌≡◌, ◌+◌, ◌<◌, ◌≤◌, ℕ, List, Option, IfNone, MatchOption, length};
-ghost use Rattle.pk_outside.specs.Allowing.{IsFree};
 ghost use Rattle.link_opening.specs.Feeds.{Underway};
 ghost use Rattle.link_opening.specs.Opens.{Opens, ReadFaults, WriteFaults};
+ghost use Rattle.link_opening.specs.Replying.{MayGoOn, MayReply};
 
 use crate::ends::Opening;
 use crate::feeding::feed_bytes;
@@ -18,7 +18,7 @@ fn open_round<I: Source, O: Sink>(
     sink: &mut O,
     buffer: &mut MessageBuffer,
 ) -> Option<Opening>
-    requires free { IsFree O.allowed }
+    requires may { MayGoOn O.allowed guid (I.left source.old) (O.held sink.old) buffer.old shake.old }
     ensures opens { (door : ℕ) (first : List ℕ) (left held : Option (List ℕ)) → Underway door guid first left (I.left source.old) held (O.held sink.old) buffer.old shake.old
         → MatchOption result (Underway door guid first left (I.left source.new) held (O.held sink.new) buffer.new shake.new)
         (λ opening. Opens door guid first left (I.left source.new) (I.ended source.new) held (O.held sink.new) buffer.new opening) }
@@ -61,7 +61,8 @@ pub fn open_link<I: Source, O: Sink>(
     sink: &mut O,
     buffer: &mut MessageBuffer,
 ) -> Opening
-    requires free { IsFree O.allowed }
+    // Each prefix of what is replied to these bytes and any others may be written.
+    requires may { MayReply O.allowed (O.held sink.old) door guid buffer.old }
     // What was read was answered as the definition over all of it says, and that was written.
     ensures opens { Opens door guid buffer.old (I.left source.old) (I.left source.new) (I.ended source.new) (O.held sink.old) (O.held sink.new) buffer.new result }
     // A fault of the outside is told exactly where the object counted it, by its last call.

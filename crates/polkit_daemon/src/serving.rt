@@ -1,6 +1,7 @@
 // The command that serves the connections that come in at doors.
 ghost use Rattle.std.specs.Prelude.{◌≡◌, is_some, true};
 ghost use Rattle.pk_outside.specs.Allowing.{IsFree};
+ghost use Rattle.connection_serve.specs.Promises.{MayServe};
 ghost use Rattle.serve_words.specs.declared.plan.ServePlan.{ServePlan};
 ghost use Rattle.serve_words.specs.Plans.{IsAllowed, plan_in};
 ghost use Rattle.authority_service.specs.Service.{outside};
@@ -40,7 +41,7 @@ pub fn serve<R: Threads + Wait + Sync, T: Tree, N: Station, O: Sink>(
 ) -> Status
     requires allowed { IsAllowed plan.now }
     requires free { IsFree O.allowed }
-    requires free_door { IsFree N.Door.Link.Out.allowed }
+    requires may_serve { MayServe N.Door.Link.Out.allowed }
 
     // The journal that was closed, the doors that came back, what was written and what was counted,
     // as far as the status says.
@@ -61,7 +62,7 @@ pub fn serve_named<R: Threads + Wait + Sync, T: Tree, N: Station, O: Sink>(
 ) -> Status
     requires plan { is_some (plan_in words.now) ≡ true }
     requires free { IsFree O.allowed }
-    requires free_door { IsFree N.Door.Link.Out.allowed }
+    requires may_serve { MayServe N.Door.Link.Out.allowed }
     ensures run { (plan : ServePlan) → plan_in words.now ≡ Some plan →
         IsServedOrUntouched plan (outside (T.told tree.old) (T.faults tree.old) (T.faults tree.new) (N.told station.old) (N.told station.new)
         (N.faults station.old) (N.faults station.new) (O.held output.old) (O.held output.new) (O.faults output.old) (O.faults output.new)) result }

@@ -1,6 +1,7 @@
 // The top call: the command that the words name.
 ghost use Rattle.std.specs.Prelude.{◌≡◌, ◌↔◌, None, Some, Option, List, ℕ};
 ghost use Rattle.pk_outside.specs.Allowing.{IsFree};
+ghost use Rattle.connection_serve.specs.Promises.{MayServe};
 ghost use Rattle.polkit_daemon.specs.Commands.{AsksNoStation, AsksNoTree, IsNoService, Named, command_of, limits_of};
 ghost use Rattle.polkit_daemon.specs.Faults.{InputFaults, OutputFaults};
 ghost use Rattle.polkit_daemon.specs.Generate.{Generates};
@@ -49,7 +50,7 @@ pub fn polkitd<R: Threads + Wait + Sync, T: Tree, N: Station, I: Source, O: Sink
     output: &mut O,
 ) -> Status
     requires free { IsFree O.allowed }
-    requires free_door { IsFree N.Door.Link.Out.allowed }
+    requires may_serve { MayServe N.Door.Link.Out.allowed }
     ensures usage { (result ≡ Status.Usage) ↔ (command_of words.now ≡ None) }
     ensures unread { result ≡ Status.Usage → I.left input.new ≡ I.left input.old }
     ensures unwritten { result ≡ Status.Usage → O.held output.new ≡ O.held output.old }

@@ -1,5 +1,5 @@
--- The words behind `serve`: `--root DIR --door UID:PATH {--door UID:PATH} --slots N [--stop-after K] [--entries K]`, in this order.
-use Rattle.std.specs.Prelude.{ℕ, ◌≡◌, ◌≤◌, ◌*◌, ◌==◌, IfSome, ◌&&◌, Bool, not, List, [], ◌∷◌, ◌++◌, length, Option, Some, None, codes, if◌then◌else◌, nat_eq, nat_le, option_and_then, option_map}
+-- The words behind `serve`: `--root DIR --door UID:PATH {--door UID:PATH} --slots N [--stop-after K] [--entries K] [--audit]`, in this order.
+use Rattle.std.specs.Prelude.{ℕ, ◌≡◌, ◌≤◌, ◌*◌, ◌==◌, IfSome, ◌&&◌, Bool, true, false, not, List, [], ◌∷◌, ◌++◌, length, Option, Some, None, codes, if◌then◌else◌, nat_eq, nat_le, option_and_then, option_map}
 use Rattle.std.specs.List.{ends_with}
 use Rattle.std.specs.Str.{bytes_eq}
 use Rattle.pk_types.specs.Decimals.{decimal_up_to}
@@ -9,6 +9,7 @@ use Rattle.command_line.specs.declared.door.DoorPath.{DoorPath}
 use Rattle.command_line.specs.Doors.{door_of}
 use Rattle.serve_words.specs.declared.plan.ServePlan.{ServePlan}
 use Rattle.serve_words.specs.declared.amounts.Amounts.{Amounts}
+use Rattle.serve_words.specs.declared.amounts.Ending.{Ending}
 use Rattle.serve_words.specs.declared.amounts.TheConstants.{MAX_SLOTS, MAX_CONNECTIONS}
 
 -- a number above 0
@@ -29,22 +30,41 @@ entries_in other = None
 abbrev pub is_root : List ℕ → Bool
 is_root path = not (length path == 0) && not (ends_with nat_eq path (codes "/"))
 
--- the amounts with so many slots and so many connections, if the last words are right
-abbrev pub amounts_of : ℕ → Option ℕ → Option ℕ → Option Amounts
-amounts_of slots stop entries = option_map (λ e. record { slots = slots; stop_after = stop; entries = e }) entries
-
--- the amounts with so many slots, and the number of connections that a word says
-abbrev pub stopping : ℕ → List ℕ → List (List ℕ) → Option Amounts
-stopping slots number words = option_and_then (λ k. amounts_of slots (Some k) (entries_in words)) (positive_up_to MAX_CONNECTIONS number)
-
 -- the value of the option of this name, and the words behind it, where the words begin with that option
 abbrev pub value_of : List ℕ → List (List ℕ) → Option (List ℕ × List (List ℕ))
 value_of name (option ∷ value ∷ words) = if bytes_eq option name then Some (value, words) else None
 value_of name words = None
 
+-- whether the last words ask for the audit text: `--audit`, or no word
+abbrev pub audit_in : List (List ℕ) → Option Bool
+audit_in [] = Some false
+audit_in (option ∷ []) = if bytes_eq option (codes "--audit") then Some true else None
+audit_in other = None
+
+-- the ending with this limit of entries, if the words after it are right
+abbrev pub ending_with : ℕ → Option Bool → Option Ending
+ending_with entries audit = option_map (λ a. record { entries = entries; audit = a }) audit
+
+-- the ending of the words, which begin with a limit of entries or do not
+abbrev pub ending_or : List (List ℕ) → Option (List ℕ × List (List ℕ)) → Option Ending
+ending_or words None = ending_with MAX_ENTRIES (audit_in words)
+ending_or words (Some (number, rest)) = option_and_then (λ e. ending_with e (audit_in rest)) (positive_up_to MAX_ENTRIES number)
+
+-- how the words of a service end: `[--entries K] [--audit]`
+abbrev pub ending_in : List (List ℕ) → Option Ending
+ending_in words = ending_or words (value_of (codes "--entries") words)
+
+-- the amounts with so many slots and so many connections, if the last words are right
+abbrev pub amounts_of : ℕ → Option ℕ → Option Ending → Option Amounts
+amounts_of slots stop ending = option_map (λ e. record { slots = slots; stop_after = stop; entries = e.entries; audit = e.audit }) ending
+
+-- the amounts with so many slots, and the number of connections that a word says
+abbrev pub stopping : ℕ → List ℕ → List (List ℕ) → Option Amounts
+stopping slots number words = option_and_then (λ k. amounts_of slots (Some k) (ending_in words)) (positive_up_to MAX_CONNECTIONS number)
+
 -- the amounts with so many slots that the words say, which begin with a number of connections or do not
 abbrev pub stopping_or : ℕ → List (List ℕ) → Option (List ℕ × List (List ℕ)) → Option Amounts
-stopping_or slots words None = amounts_of slots None (entries_in words)
+stopping_or slots words None = amounts_of slots None (ending_in words)
 stopping_or slots words (Some (number, rest)) = stopping slots number rest
 
 -- the amounts with so many slots that the words behind them say
@@ -66,7 +86,7 @@ doors_from doors words = Some (doors, words)
 abbrev pub planned : List ℕ → List DoorPath → Amounts → Option ServePlan
 planned root doors a =
     if not (length doors == 0) && nat_le (a.slots * length doors) MAX_SLOTS
-    then Some (record { root = root; doors = doors; slots = a.slots; stop_after = a.stop_after; limits = record { entries = a.entries; bytes = MAX_BYTES } })
+    then Some (record { root = root; doors = doors; slots = a.slots; stop_after = a.stop_after; limits = record { entries = a.entries; bytes = MAX_BYTES }; audit = a.audit })
     else None
 
 -- the plan of this root that the words behind it name

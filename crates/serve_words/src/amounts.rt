@@ -1,6 +1,6 @@
 // What stands behind the doors.
 ghost use Rattle.std.specs.Prelude.{◌≡◌, ◌≤◌, Some, None, IfNone, IfSome};
-ghost use Rattle.serve_words.specs.Plans.{IsInRange, amounts_in, amounts_of, behind_slots, entries_in, positive_up_to, stopping, value_of};
+ghost use Rattle.serve_words.specs.Plans.{IsInRange, amounts_in, amounts_of, audit_in, behind_slots, ending_in, entries_in, positive_up_to, stopping, value_of};
 
 use authority_model::MAX_ENTRIES;
 use pk_types::{Text, number_up_to};
@@ -12,12 +12,20 @@ pub const MAX_SLOTS: u64 = 64;
 pub const MAX_CONNECTIONS: u64 = 1_000_000;
 
 /// How much a service does: so many slots a door, so many connections a slot, if it is to end at all,
-/// and so many entries in its journal.
+/// and so many entries in its journal; and whether it writes the audit text of that.
 #[derive(Clone, Copy)]
 pub struct Amounts {
     pub slots: u64,
     pub stop_after: Option<u64>,
     pub entries: u64,
+    pub audit: bool,
+}
+
+/// How the words of a service end: with a limit of entries, and whether the audit text is written.
+#[derive(Clone, Copy)]
+struct Ending {
+    entries: u64,
+    audit: bool,
 }
 
 /// A number from 1 to the greatest one, in decimal digits without a sign and without a zero in front
@@ -48,21 +56,54 @@ pub fn entries_in(words: &[Text]) -> Option<u64>
     }
 }
 
-/// So many slots and connections, and this limit of entries, if it was told rightly.
-fn with_entries(slots: u64, stop_after: Option<u64>, entries: Option<u64>) -> Option<Amounts>
+/// Whether the last words of a command ask for the audit text: `--audit`, or no word.
+fn audit_in(words: &[Text]) -> Option<bool>
+    ensures audit { result ≡ audit_in words.now }
+{
+    match words {
+        [] => Some(false),
+        [option] if option.bytes() == b"--audit".as_slice() => Some(true),
+        _ => None,
+    }
+}
+
+/// The ending that the last words of a service say: `[--entries K] [--audit]`.
+fn ending_in(words: &[Text]) -> Option<Ending>
+    ensures ending { result ≡ ending_in words.now }
+    ensures range { IfSome result (λ e. (1 ≤ e.entries) × (e.entries ≤ MAX_ENTRIES)) }
+{
+    match value_of(words, b"--entries") {
+        Some((number, rest)) => {
+            let entries = positive(number.bytes(), MAX_ENTRIES)?;
+            let audit = audit_in(rest)?;
+            Some(Ending { entries, audit })
+        }
+        None => {
+            let audit = audit_in(words)?;
+            Some(Ending {
+                entries: MAX_ENTRIES,
+                audit,
+            })
+        }
+    }
+}
+
+/// So many slots and connections, and this ending, if it was told rightly.
+fn with_ending(slots: u64, stop_after: Option<u64>, ending: Option<Ending>) -> Option<Amounts>
     requires slots { (1 ≤ slots) × (slots ≤ MAX_SLOTS) }
     requires stop { IfSome stop_after (λ k. (1 ≤ k) × (k ≤ MAX_CONNECTIONS)) }
-    requires entries { IfSome entries (λ n. (1 ≤ n) × (n ≤ MAX_ENTRIES)) }
-    ensures amounts { result ≡ amounts_of slots stop_after entries }
+    requires ending { IfSome ending (λ e. (1 ≤ e.entries) × (e.entries ≤ MAX_ENTRIES)) }
+    ensures amounts { result ≡ amounts_of slots stop_after ending }
     ensures range { IfSome result IsInRange }
 {
-    let Some(entries) = entries else {
+    let Some(Ending { entries, audit }) = ending else {
         return None;
     };
     Some(Amounts {
         slots,
         stop_after,
         entries,
+        audit,
     })
 }
 
@@ -73,7 +114,7 @@ fn stopping(slots: u64, number: &Text, rest: &[Text]) -> Option<Amounts>
     ensures range { IfSome result IsInRange }
 {
     let stop = positive(number.bytes(), MAX_CONNECTIONS)?;
-    with_entries(slots, Some(stop), entries_in(rest))
+    with_ending(slots, Some(stop), ending_in(rest))
 }
 
 /// The value of the option of this name, and the words behind it, where the words begin with that
@@ -96,7 +137,7 @@ fn behind_slots(slots: u64, words: &[Text]) -> Option<Amounts>
 {
     match value_of(words, b"--stop-after") {
         Some((number, rest)) => stopping(slots, number, rest),
-        None => with_entries(slots, None, entries_in(words)),
+        None => with_ending(slots, None, ending_in(words)),
     }
 }
 

@@ -19,4 +19,6 @@ pub struct ServePlan {
     pub stop_after: Option<u32>,
     /// The limits of the journal.
     pub limits: Limits,
+    /// Whether the audit text of the journal is written in place of all lines.
+    pub audit: bool,
 }

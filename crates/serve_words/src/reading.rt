@@ -76,11 +76,12 @@ fn planned(root: Text, doors: DoorList, amounts: Amounts) -> Option<ServePlan>
             entries: amounts.entries,
             bytes: MAX_BYTES,
         },
+        audit: amounts.audit,
     })
 }
 
 /// The plan that the words behind `serve` name: `--root DIR`, one or more times `--door UID:PATH`,
-/// `--slots N`, and then `--stop-after K` and `--entries K` or none of them, in this order.
+/// `--slots N`, and then `--stop-after K`, `--entries K` and `--audit`, each or not, in this order.
 ///
 /// `None` exactly where the words are not of this form.
 ///

@@ -1,7 +1,7 @@
 // The slots beside the loader.
 ghost use Rattle.std.specs.Prelude.{◌≡◌, None, All, map};
 ghost use mathlib.Core.List.{IsPrefix};
-ghost use Rattle.pk_outside.specs.Allowing.{IsFree};
+ghost use Rattle.connection_serve.specs.Promises.{MayServe};
 ghost use Rattle.authority_model.specs.Peers.{uid_of};
 ghost use Rattle.shared_authority.specs.Journals.{past_of};
 ghost use Rattle.serve_loader.specs.Loads.{Loads};
@@ -79,7 +79,7 @@ fn serve_then_stop<
     slots: &mut Vec<Slot<L, T, D, C, S>>,
 ) -> Result<(), EndCause>
     requires none_ended { All (λ s. NoneEnded s.lines.items) slots.old.items }
-    requires free { IsFree D.Link.Out.allowed }
+    requires may { MayServe D.Link.Out.allowed }
     ensures slots { All (λ s. SlotOf s.pass.history (D.owner s.door) (D.told s.door) (C.gave s.clock) (S.gave s.salt) s.lines.items) slots.old.items
         → All (λ s. SlotOf s.pass.history (D.owner s.door) (D.told s.door) (C.gave s.clock) (S.gave s.salt) s.lines.items) slots.new.items }
     ensures doors { map (λ s. made_of (D.told s.door)) slots.new.items ≡ map (λ s. made_of (D.told s.door)) slots.old.items }
@@ -116,7 +116,7 @@ pub fn serve_beside_loader<
     requires zero { zero.number ≡ 0 }
     requires fresh { uid_of (past_of zero.history) 0 ≡ None }
     requires none_ended { All (λ s. NoneEnded s.lines.items) slots.items }
-    requires free { IsFree D.Link.Out.allowed }
+    requires may { MayServe D.Link.Out.allowed }
     ensures slots { All (λ s. SlotOf s.pass.history (D.owner s.door) (D.told s.door) (C.gave s.clock) (S.gave s.salt) s.lines.items) slots.items
         → All (λ s. SlotOf s.pass.history (D.owner s.door) (D.told s.door) (C.gave s.clock) (S.gave s.salt) s.lines.items) result.slots.items }
     ensures doors { map (λ s. made_of (D.told s.door)) result.slots.items ≡ map (λ s. made_of (D.told s.door)) slots.items }
@@ -144,7 +144,7 @@ pub fn serve_beside_loader<
             Vec<Slot<L, T, D, C, S>>,
         )
             requires none_ended { All (λ s. NoneEnded s.lines.items) slots.items }
-            requires free { IsFree D.Link.Out.allowed }
+            requires may { MayServe D.Link.Out.allowed }
             ensures slots { All (λ s. SlotOf s.pass.history (D.owner s.door) (D.told s.door) (C.gave s.clock) (S.gave s.salt) s.lines.items) slots.items
                 → let (pass, stopped, served) = result in All (λ s. SlotOf s.pass.history (D.owner s.door) (D.told s.door) (C.gave s.clock) (S.gave s.salt) s.lines.items) served.items }
             ensures doors { let (pass, stopped, served) = result in map (λ s. made_of (D.told s.door)) served.items ≡ map (λ s. made_of (D.told s.door)) slots.items }

@@ -1,7 +1,7 @@
 // One slot, and one connection of it.
 ghost use Rattle.std.specs.Prelude.{◌≡◌, ◌<◌, [], None, Some, ℕ, Option, IsTrue, IfNone, IfSome, length, vec_len};
 ghost use Rattle.std.specs.Vec.{vec_capacity};
-ghost use Rattle.pk_outside.specs.Allowing.{IsFree};
+ghost use Rattle.connection_serve.specs.Promises.{MayServe};
 ghost use Rattle.connection_serve.specs.Headline.{IsFresh};
 ghost use Rattle.service_slots.specs.Doors.{made_of};
 ghost use Rattle.service_slots.specs.Served.{SlotOf};
@@ -86,7 +86,7 @@ pub(crate) fn serve_next<
     requires room { vec_len slot.old.lines < vec_capacity slot.old.lines }
     requires fresh { IsFresh pass collector }
     requires none_ended { NoneEnded slot.old.lines.items }
-    requires free { IsFree D.Link.Out.allowed }
+    requires may { MayServe D.Link.Out.allowed }
     ensures slot { SlotOf slot.old.pass.history (D.owner slot.old.door) (D.told slot.old.door) (C.gave slot.old.clock) (S.gave slot.old.salt) slot.old.lines.items
         → SlotOf slot.new.pass.history (D.owner slot.new.door) (D.told slot.new.door) (C.gave slot.new.clock) (S.gave slot.new.salt) slot.new.lines.items }
     ensures door { made_of (D.told slot.new.door) ≡ made_of (D.told slot.old.door) }

@@ -1,7 +1,7 @@
 // Slots beside each other.
 ghost use Rattle.std.specs.Prelude.{◌≡◌, All, IfNone, IfSome, map};
 ghost use denote.Param.Send.{IsSync, IsSend};
-ghost use Rattle.pk_outside.specs.Allowing.{IsFree};
+ghost use Rattle.connection_serve.specs.Promises.{MayServe};
 ghost use Rattle.service_slots.specs.Doors.{made_of};
 ghost use Rattle.service_slots.specs.Served.{SlotOf};
 ghost use Rattle.service_slots.specs.Stops.{NoneEnded, StopsAs, IsStopped};
@@ -34,7 +34,7 @@ fn turn<
     slot: &mut Slot<L, T, D, C, S>,
 ) -> Option<SlotStop>
     requires none_ended { NoneEnded slot.old.lines.items }
-    requires free { IsFree D.Link.Out.allowed }
+    requires may { MayServe D.Link.Out.allowed }
     ensures slot { SlotOf slot.old.pass.history (D.owner slot.old.door) (D.told slot.old.door) (C.gave slot.old.clock) (S.gave slot.old.salt) slot.old.lines.items
         → SlotOf slot.new.pass.history (D.owner slot.new.door) (D.told slot.new.door) (C.gave slot.new.clock) (S.gave slot.new.salt) slot.new.lines.items }
     ensures door { made_of (D.told slot.new.door) ≡ made_of (D.told slot.old.door) }
@@ -70,7 +70,7 @@ fn serve_slot<
     slot: &mut Slot<L, T, D, C, S>,
 )
     requires none_ended { NoneEnded slot.old.lines.items }
-    requires free { IsFree D.Link.Out.allowed }
+    requires may { MayServe D.Link.Out.allowed }
     ensures slot { SlotOf slot.old.pass.history (D.owner slot.old.door) (D.told slot.old.door) (C.gave slot.old.clock) (S.gave slot.old.salt) slot.old.lines.items
         → SlotOf slot.new.pass.history (D.owner slot.new.door) (D.told slot.new.door) (C.gave slot.new.clock) (S.gave slot.new.salt) slot.new.lines.items }
     ensures door { made_of (D.told slot.new.door) ≡ made_of (D.told slot.old.door) }
@@ -106,7 +106,7 @@ pub fn serve_slots<
     slots: &mut [Slot<L, T, D, C, S>],
 )
     requires none_ended { All (λ s. NoneEnded s.lines.items) slots.old }
-    requires free { IsFree D.Link.Out.allowed }
+    requires may { MayServe D.Link.Out.allowed }
     ensures slots { All (λ s. SlotOf s.pass.history (D.owner s.door) (D.told s.door) (C.gave s.clock) (S.gave s.salt) s.lines.items) slots.old
         → All (λ s. SlotOf s.pass.history (D.owner s.door) (D.told s.door) (C.gave s.clock) (S.gave s.salt) s.lines.items) slots.new }
     ensures doors { map (λ s. made_of (D.told s.door)) slots.new ≡ map (λ s. made_of (D.told s.door)) slots.old }
@@ -121,7 +121,7 @@ pub fn serve_slots<
             &|_index: usize, slot: &mut Slot<L, T, D, C, S>|
                 requires { IsSync R.row × IsSync L.row × IsSync T.row × IsSend L.row × IsSend T.row × IsSend D.row × IsSend C.row × IsSend S.row
                     × IsSend D.Link.row × IsSend D.Link.In.row × IsSend D.Link.Out.row
-                    × IsFree D.Link.Out.allowed
+                    × MayServe D.Link.Out.allowed
                     × NoneEnded slot.now.lines.items }
                 ensures slot { SlotOf slot.entry.now.pass.history (D.owner slot.entry.now.door) (D.told slot.entry.now.door) (C.gave slot.entry.now.clock) (S.gave slot.entry.now.salt) slot.entry.now.lines.items
                     → SlotOf slot.exit.now.pass.history (D.owner slot.exit.now.door) (D.told slot.exit.now.door) (C.gave slot.exit.now.clock) (S.gave slot.exit.now.salt) slot.exit.now.lines.items }

@@ -1,5 +1,6 @@
 // A service over objects in memory.
 ghost use Rattle.pk_outside.specs.Allowing.{IsFree};
+ghost use Rattle.connection_serve.specs.Promises.{MayServe};
 
 use crate::written::joined;
 use authority_service::{ServiceEnd, serve};
@@ -146,7 +147,7 @@ fn serve_named<R: Threads + Wait + Sync, N: Station, O: Sink>(
     output: &mut O,
 ) -> Result<String, NoMemory>
     requires free { IsFree O.allowed }
-    requires free_door { IsFree N.Door.Link.Out.allowed }
+    requires may_serve { MayServe N.Door.Link.Out.allowed }
 {
     let failing = vec![in alloc; failing]?;
     let mut tree = tree(alloc, failing)?;

@@ -1,10 +1,10 @@
 // What is sent to a connection is written until it has gone.
 ghost use Rattle.std.specs.Prelude.{◌≡◌, ◌≢◌};
-ghost use Rattle.pk_outside.specs.Allowing.{IsFree};
 ghost use Rattle.authority_model.specs.Entering.{AreAllowed};
 ghost use Rattle.authority_model.specs.Given.{IsStepped};
 ghost use Rattle.history_lock.specs.Entries.{NoneBy};
 ghost use Rattle.shared_authority.specs.Journals.{caller_of};
+ghost use Rattle.connection_writer.specs.Promises.{MayAnswer};
 ghost use Rattle.connection_writer.specs.Writing.{StandsAt};
 
 use crate::passes::{has_place, is_entered};
@@ -202,7 +202,7 @@ fn write_at_desk<'w, L: LimitsName, T: TableName, O: Sink, B: Begun, R: Wait>(
     requires of { (writer.of ≡ B.of) × (B.of ≢ 0) }
     requires names { (writer.pass.ghost_name ≡ B.pass_name) × (writer.sink.ghost_name ≡ B.sink_name) }
     requires stands { StandsAt L.limits B.of B.held B.faults B.pass (O.held writer.sink.now) (O.faults writer.sink.now) writer.pass.now writer.end }
-    requires free { IsFree O.allowed }
+    requires may { MayAnswer O.allowed B.held B.pass.number B.of }
 {
     let of = writer.of;
     let desk: Mutex<Desk<L, T, O, B>> = Mutex::new(Desk::new(writer));

@@ -2,7 +2,7 @@ use Rattle.std.proofs.Common.{◌≡◌, ◌∙◌, List, ℕ, Option, inl, inr,
 use Rattle.pk_outside.specs.Causes.{Rose}
 use Rattle.pk_outside.specs.Streams.{Got, GotFront}
 use Rattle.pk_outside.specs.Trees.{TreeTold}
-use Rattle.scenario_text.specs.Skipped.{skipped_lines}
+use Rattle.authority_service.specs.Lines.{opening_text}
 use Rattle.authority_service.specs.declared.top.Unbegun.{Unbegun}
 use Rattle.authority_service.specs.Begun.{HasRun, UnbegunCause}
 use Rattle.authority_service.proofs.Closing.{doors_none}
@@ -13,7 +13,7 @@ pub returns-in-Err : goal.returns-in-Err
 returns-in-Err g c = record {
   served = (λ told from same is_first.
       let failed = c.in-Err.ensures.cause.failed in
-      let bytes : c.as_slice-2.result.now ≡ skipped_lines c.args.first.faults = c.as_slice-2.ensures.items ∙ (c.in-Ok.ensures.lines ∙ ap skipped_lines c.as_slice.ensures.items) in
+      let bytes : c.as_slice.result.now ≡ opening_text c.args.plan.now.audit c.args.first = c.as_slice.ensures.items ∙ c.in-Ok.ensures.text in
       let rose : Rose (g.O.Sink.faults c.args.output.now) (g.O.Sink.faults c.write_all.new.output) = omega (arith, failed) in (
         rose,
         inl (record {
@@ -30,7 +30,7 @@ returns-in-Err g c = record {
 pub returns-in-Ok-run_named : goal.returns-in-Ok-run_named
 returns-in-Ok-run_named g c = record {
   served = (λ told from same is_first.
-      let bytes : c.as_slice-2.result.now ≡ skipped_lines c.args.first.faults = c.as_slice-2.ensures.items ∙ (c.in-Ok.ensures.lines ∙ ap skipped_lines c.as_slice.ensures.items) in
+      let bytes : c.as_slice.result.now ≡ opening_text c.args.plan.now.audit c.args.first = c.as_slice.ensures.items ∙ c.in-Ok.ensures.text in
       let got = subst (λ (b : List ℕ). Got (g.O.Sink.held c.args.output.now) (g.O.Sink.held c.write_all.new.output) b) bytes c.in-Ok-write_all.ensures.ok in
       let run = subst (λ (t : Option TreeTold). HasRun c.args.plan.now c.args.first (record { tree = t; station_before = g.N.Station.told c.args.station.now; station = g.N.Station.told c.run_named.new.station; station_faults_before = g.N.Station.faults c.args.station.now; station_faults = g.N.Station.faults c.run_named.new.station })
       c.in-Ok-run_named.ran.authority.history c.in-Ok-run_named.ran.slots.items c.in-Ok-run_named.ran.cause) (sym same) c.in-Ok-run_named.ensures.ran in
@@ -42,7 +42,7 @@ returns-in-Ok-run_named g c = record {
 pub returns : goal.returns
 returns g c = record {
   served = (λ told from same is_first.
-      let bytes : c.as_slice-2.result.now ≡ skipped_lines c.args.first.faults = c.as_slice-2.ensures.items ∙ (c.in-Ok.ensures.lines ∙ ap skipped_lines c.as_slice.ensures.items) in
+      let bytes : c.as_slice.result.now ≡ opening_text c.args.plan.now.audit c.args.first = c.as_slice.ensures.items ∙ c.in-Ok.ensures.text in
       let got = subst (λ (b : List ℕ). Got (g.O.Sink.held c.args.output.now) (g.O.Sink.held c.write_all.new.output) b) bytes c.in-Ok-write_all.ensures.ok in
       inr (inl (unbegun_short c.args.plan.now c.args.first _ _ _ refl refl c.in-Err-NoMemory.ensures.short is_first (inl got))));
 }
@@ -50,7 +50,7 @@ returns g c = record {
 pub returns-in-Err-DoorFault : goal.returns-in-Err-DoorFault
 returns-in-Err-DoorFault g c = record {
   served = (λ told from same is_first.
-      let bytes : c.as_slice-2.result.now ≡ skipped_lines c.args.first.faults = c.as_slice-2.ensures.items ∙ (c.in-Ok.ensures.lines ∙ ap skipped_lines c.as_slice.ensures.items) in
+      let bytes : c.as_slice.result.now ≡ opening_text c.args.plan.now.audit c.args.first = c.as_slice.ensures.items ∙ c.in-Ok.ensures.text in
       let got = subst (λ (b : List ℕ). Got (g.O.Sink.held c.args.output.now) (g.O.Sink.held c.write_all.new.output) b) bytes c.in-Ok-write_all.ensures.ok in
       let short = c.in-Err-DoorFault.ensures.short in (
         subst (λ (why : Unbegun). UnbegunCause (g.N.Station.faults c.args.station.now) (g.N.Station.faults c.run_named.new.station) why) c.in-Err-DoorFault.field-0-is short.cause,

@@ -3,6 +3,7 @@ use Rattle.authority_model.specs.declared.journal.Item.{Item}
 use Rattle.connection_serve.proofs.Serving.{early_serves, late_serves}
 use Rattle.history_lock.specs.Entries.{NoneBy}
 use Rattle.shared_authority.specs.Journals.{caller_of}
+use Rattle.connection_serve.proofs.Promising.{answers_may, greeting_may}
 use Rattle.connection_serve.proofs.connection.serve_connection.Goals as goal
 
 pub serve_messages-requires-clause-connection : goal.serve_messages-requires-clause-connection
@@ -45,3 +46,11 @@ returns-in-Err-clause-collected g c =
 
 pub returns-in-Err-clause-both : goal.returns-in-Err-clause-both
 returns-in-Err-clause-both g c = let m = c.meet.ensures in (sym m.equal.0, sym m.equal.1, sym m.equal.2)
+
+pub greet-requires-clause-may : goal.greet-requires-clause-may
+greet-requires-clause-may g c κs within = greeting_may g.O.Sink.allowed (g.O.Sink.held c.args.sink.now) c.args.uid c.word-guid.result c.args.collector.now.number c.args.pass.now.number c.requires.may
+
+pub serve_messages-requires-clause-may : goal.serve_messages-requires-clause-may
+serve_messages-requires-clause-may g c κs within =
+    let begun = c.in-Ok.ensures.greets.0 in
+    answers_may g.O.Sink.allowed (g.O.Sink.held c.args.sink.now) (g.O.Sink.held c.greet.new.sink) c.args.uid c.word-guid.result c.args.collector.now.number c.args.pass.now.number begun.read c.in-Ok.buffer c.requires.may begun.settles

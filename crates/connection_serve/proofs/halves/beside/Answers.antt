@@ -16,3 +16,15 @@ returns-clause-writes g c =
     let names = b.names in
     both_left (λ w s. WritesTo g.L.LimitsName.limits c.args.of held faults v (g.O.Sink.held s) (g.O.Sink.faults s) w c.finish-wrote.result)
     (c.finish-wrote.ensures v held faults b.stands) (search rules) (search rules)
+
+pub read_with_writer-collector-requires-clause-may : goal.read_with_writer-collector-requires-clause-may
+read_with_writer-collector-requires-clause-may g c κs within = c.requires.may
+
+pub finish-wrote-requires-clause-began : goal.finish-wrote-requires-clause-began
+finish-wrote-requires-clause-began g c κs within = record {
+  held_first = g.O.Sink.held c.args.sink.now;
+  faults_first = g.O.Sink.faults c.args.sink.now;
+  pass_first = c.args.collector.now;
+  may = c.requires.may;
+  stands = c.read_with_writer-collector.ensures.stands;
+}

@@ -1,9 +1,10 @@
-use Rattle.std.proofs.Common.{◌≤◌, ℕ, subst}
+use Rattle.std.proofs.Common.{◌≤◌, ℕ, sym, subst}
 use Rattle.history_lock.specs.declared.machine.TheConstants.{MOST_PASSES}
 use Rattle.connection_reader.specs.Reading.{Hand, hand}
 use Rattle.connection_serve.proofs.Causes.{reader_faults}
 use Rattle.connection_serve.proofs.Serving.{halves_met}
 use Rattle.connection_writer.specs.Writing.{WritesTo}
+use Rattle.connection_writer.specs.Promises.{MayAnswer}
 use Rattle.connection_serve.proofs.halves.serve_messages.Goals as goal
 
 pub returns-clause-meets : goal.returns-clause-meets
@@ -31,3 +32,6 @@ returns-clause-meets g c =
       same_made = m.equal.1;
       same_ended = m.equal.2;
     }
+
+pub beside-wrote-requires-clause-may : goal.beside-wrote-requires-clause-may
+beside-wrote-requires-clause-may g c κs within = subst (MayAnswer g.O.Sink.allowed (g.O.Sink.held c.args.sink.now) c.args.collector.now.number) (sym c.number-of.ensures.number) c.requires.may

@@ -2,6 +2,7 @@ use Rattle.std.proofs.Common.{Option, List, ℕ, sym, ◌∙◌, subst}
 use Rattle.connection_serve.specs.Halves.{HasBegun}
 use Rattle.connection_serve.proofs.Causes.{fails_rose}
 use Rattle.connection_serve.proofs.Greetings.{begins, ends_at_once, ends_by_cut, ends_by_fault, ends_by_memory, ends_by_read, ends_by_write}
+use Rattle.link_opening.specs.Replying.{MayReply}
 use Rattle.connection_serve.proofs.opening.greet.Goals as goal
 
 pub returns-in_default-clause-greets : goal.returns-in_default-clause-greets
@@ -34,3 +35,6 @@ returns-in-WriteFault-clause-greets g c =
 
 pub returns-in-NoMemory-clause-greets : goal.returns-in-NoMemory-clause-greets
 returns-in-NoMemory-clause-greets g c = ends_by_memory c.args.uid c.args.guid _ c.in-Ok.ensures.empty _ _ _ _ _ _ _ _ _ _ c.in-NoMemory.ensures.opens
+
+pub open_link-requires-clause-may : goal.open_link-requires-clause-may
+open_link-requires-clause-may g c κs within = subst (MayReply g.O.Sink.allowed (g.O.Sink.held c.args.sink.now) c.args.uid c.args.guid) (sym c.in-Ok.ensures.empty) c.requires.may

@@ -4,6 +4,7 @@ use Rattle.authority_messages.specs.Texts.{message_text, texts}
 use Rattle.pk_outside.specs.Streams.{GotUpTo}
 use Rattle.connection_writer.proofs.Texts.{texts_around, texts_more}
 use Rattle.connection_writer.proofs.Written.{behind_part, front_longer, front_more, upto_more, upto_refused}
+use Rattle.connection_writer.proofs.Promising.{message_may}
 use Rattle.connection_writer.proofs.batches.add_messages.Goals as goal
 
 pub returns-in_err-add_message-clause-writes : goal.returns-in_err-add_message-clause-writes
@@ -36,3 +37,13 @@ loop-output-preserved g c =
           (upto_more _ _ _ (before ++ done) c.loop-output.ready.items text c.add_message.new.ready.items i.written c.in_ok-add_message.ensures.writes);
       later = (let a = i.later in let b = c.add_message.ensures.later in omega (arith, a, b));
     }
+
+pub add_message-requires-clause-may : goal.add_message-requires-clause-may
+add_message-requires-clause-may g c κs within =
+    let i = c.loop-output.invariant in
+    let k = c.loop-output.output-index in
+    let os = c.args.outputs.now in
+    let loads = c.args.history.now.loads in
+    let around = texts_around loads c.args.first c.loop-output.serial os k c.output-item.result c.loop-output-test.true c.output-item.is i.serial in
+    message_may g.O.Sink.allowed (g.O.Sink.held c.args.sink.now) (g.O.Sink.held c.loop-output.sink) c.args.ready.now.items (texts loads c.args.first (take k os)) (message_text loads c.loop-output.serial c.output-item.result) around.0
+    (texts loads c.args.first os) c.loop-output.ready.items around.1 c.requires.may i.written

@@ -7,6 +7,7 @@ use Rattle.connection_writer.proofs.Collecting.{told, refused_so}
 use Rattle.connection_writer.proofs.Writes.{batch_front, batch_written, gone_written, refused_written, writable}
 use Rattle.connection_writer.proofs.Written.{rose_later}
 use Rattle.shared_authority.specs.declared.collecting.Collected.TheVariants.{Batch, Gone}
+use Rattle.connection_writer.proofs.Promising.{batch_may}
 use Rattle.connection_writer.proofs.writer.write_collected.Goals as goal
 
 pub write_batch-requires-clause-writable : goal.write_batch-requires-clause-writable
@@ -59,3 +60,11 @@ returns-in-Some-Err-clause-stands g c = λ before v of held faults collects so.
       c.end-cause.ensures.fits,
       c.end-cause.ensures.knows,
     )
+
+pub write_batch-requires-clause-may : goal.write_batch-requires-clause-may
+write_batch-requires-clause-may g c κs within =
+    let i = c.in-Some-Ok-Batch in
+    let r = c.requires.collects in
+    let b = r.4 in
+    batch_may g.O.Sink.allowed b.held_first (g.O.Sink.held c.args.sink.now) r.1 b.pass_first r.0 c.args.pass.now i.batch b.may b.stands.0
+    (told g.L.LimitsName.limits r.0 c.args.pass.now r.1 c.args.now i.field-0 i.field-0-0 (Batch i.batch) i.is i.field-0-is i.field-0-0-is r.3)

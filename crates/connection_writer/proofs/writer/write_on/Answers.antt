@@ -1,4 +1,5 @@
-use Rattle.std.proofs.Common.{arith}
+use Rattle.std.proofs.Common.{None, arith}
+use Rattle.connection_writer.proofs.Promising.{began_on}
 use Rattle.connection_writer.proofs.writer.write_on.Goals as goal
 
 pub loop-turn-preserved : goal.loop-turn-preserved
@@ -12,3 +13,8 @@ loop-turn-preserved g c =
 
 pub returns-in-Some-write_ready-clause-stands : goal.returns-in-Some-write_ready-clause-stands
 returns-in-Some-write_ready-clause-stands g c = λ v held faults so. c.in-Some-write_ready.ensures.stands v held faults (c.loop-turn.invariant.stands v held faults so)
+
+pub write_ready-requires-clause-began : goal.write_ready-requires-clause-began
+write_ready-requires-clause-began g c κs within =
+    began_on g.L.LimitsName.limits g.O.Sink.allowed c.args.of (g.O.Sink.held c.args.sink.now) (g.O.Sink.held c.loop-turn.sink) (g.O.Sink.faults c.args.sink.now) (g.O.Sink.faults c.loop-turn.sink) c.args.pass.now c.loop-turn.pass None None
+    c.requires.began (λ v held faults so. c.loop-turn.invariant.stands v held faults so)

@@ -1,8 +1,15 @@
 -- Each step of the handshake.
-use Rattle.std.proofs.Common.{subst, ◌∙◌}
+use Rattle.std.proofs.Common.{subst, sym, ◌∙◌}
+use Rattle.pk_outside.specs.Allowing.{MayGo}
 use Rattle.pk_outside.specs.Streams.{Got, GotFront}
 use Rattle.link_opening.proofs.Fed.{fed_more, fed_said, fed_front, fed_begun, fed_fault}
+use Rattle.link_opening.proofs.Replying.{reply_may}
 use Rattle.link_opening.proofs.feeding.feed_byte.Goals as goal
+
+pub write_all-requires-clause-may : goal.write_all-requires-clause-may
+write_all-requires-clause-may g c κs within =
+    subst (MayGo g.O.Sink.allowed (g.O.Sink.held c.args.sink.now)) (sym (c.bytes.ensures.bytes ∙ c.reply_bytes-line.ensures.line))
+    (reply_may g.O.Sink.allowed c.args.guid c.args.byte (g.O.Sink.held c.args.sink.now) c.args.shake.now c.feed.new.self c.in-Say.reply c.requires.may c.in-Say.ensures.step)
 
 pub returns-in-More-clause-feeds : goal.returns-in-More-clause-feeds
 returns-in-More-clause-feeds g c door bytes held so =

@@ -9,3 +9,13 @@ rounds-init g c = record {
   read = refl;
   wrote = refl;
 }
+
+pub open_round-requires-clause-may : goal.open_round-requires-clause-may
+open_round-requires-clause-may g c κs within = record {
+  door = c.args.door;
+  first = c.args.buffer.now;
+  left_before = g.I.Source.left c.args.source.now;
+  held_before = g.O.Sink.held c.args.sink.now;
+  underway = c.rounds.invariant.so;
+  may = c.requires.may;
+}

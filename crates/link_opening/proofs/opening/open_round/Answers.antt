@@ -1,7 +1,12 @@
 -- The handshake stops inside the buffer, or the whole buffer was fed and more was read.
 use Rattle.std.proofs.lemmas.Option.{MatchOption-at_none, MatchOption-at_some}
 use Rattle.link_opening.proofs.Rounds.{all_taken, cut, no_memory, read_fault, reads_on, stopped_at}
+use Rattle.link_opening.proofs.Replying.{round_fed}
 use Rattle.link_opening.proofs.opening.open_round.Goals as goal
+
+pub feed_bytes-fed-requires-clause-may : goal.feed_bytes-fed-requires-clause-may
+feed_bytes-fed-requires-clause-may g c κs within =
+    round_fed g.O.Sink.allowed c.args.guid (g.I.Source.left c.args.source.now) (g.O.Sink.held c.args.sink.now) c.args.buffer.now c.bytes.result.now c.args.shake.now c.bytes.ensures.bytes c.requires.may
 
 pub returns-in-Some-clause-opens : goal.returns-in-Some-clause-opens
 returns-in-Some-clause-opens g c door first left held u =

@@ -71,3 +71,7 @@ returns-clause-stops g c =
     (g.D.Door.told c.back.new.self) (g.D.Door.faults c.back.new.self) s.lines.items c.push_reserved.new.self.items c.number-number.result c.uid-uid.result e.result c.of_end.result
     e.ensures.served m.ensures.first m.ensures.second m.ensures.equal.0 m.ensures.equal.1 m.ensures.top c.requires.none_ended c.push_reserved.ensures.items c.of_end.ensures in
     now.stops
+
+pub serve_connection-end-requires-clause-may : goal.serve_connection-end-requires-clause-may
+serve_connection-end-requires-clause-may g c κs within =
+    c.requires.may (g.D.Link.Out.Sink.held c.split-ends.result.output) c.uid-uid.result c.args.collector.number c.args.pass.number c.split-ends.ensures.unwritten

@@ -8,7 +8,7 @@ use Rattle.service_slots.proofs.slots.serve_slots.Goals as goal
 pub for_each_mut-requires-clause-accepts : goal.for_each_mut-requires-clause-accepts
 for_each_mut-requires-clause-accepts g c κs within i p lt is =
     let none = subst (λ (s : Slot g.row.L.Denot g.row.T.Denot g.row.D.Denot g.row.C.Denot g.row.S.Denot g.row.D-Link.Denot g.row.D-Link-In.Denot g.row.D-Link-Out.Denot g.L.LimitsName). NoneEnded s.lines.items) (sym is) (c.requires.none_ended i p.now lt) in
-    ((search rules, search rules, search rules, search rules, search rules, search rules, search rules, search rules, search rules, search rules, search rules, c.requires.free, none), (search rules, search rules, search rules, search rules, search rules, search rules, search rules, search rules, search rules, search rules, search rules))
+    ((search rules, search rules, search rules, search rules, search rules, search rules, search rules, search rules, search rules, search rules, search rules, c.requires.may, none), (search rules, search rules, search rules, search rules, search rules, search rules, search rules, search rules, search rules, search rules, search rules))
 
 pub returns-then-count-gt0-clause-doors : goal.returns-then-count-gt0-clause-doors
 returns-then-count-gt0-clause-doors g c =

@@ -1,5 +1,6 @@
 use Rattle.std.proofs.Common.{ℕ, sym, ◌∙◌, subst}
 use Rattle.connection_writer.specs.Writing.{StandsAt}
+use Rattle.connection_writer.specs.Promises.{MayAnswer}
 use Rattle.connection_writer.proofs.desk.Desk.write_ready.Goals as goal
 
 pub invariant_of-self : goal.invariant_of-self
@@ -18,3 +19,16 @@ invariant_of-self g c =
           (e.stands B.pass B.held B.faults (subst (λ (n : ℕ). StandsAt limits n B.held B.faults B.pass (g.O.Sink.held old.sink.now) (g.O.Sink.faults old.sink.now) old.pass.now old.end) (sym i.0) i.4)),
       i.5,
     )
+
+pub write_ready-requires-clause-began : goal.write_ready-requires-clause-began
+write_ready-requires-clause-began g c κs within =
+    let B = g.B.Begun in
+    let old = c.self.inside.writer in
+    let i = c.self.invariant in
+    record {
+      held_first = B.held;
+      faults_first = B.faults;
+      pass_first = B.pass;
+      may = subst (MayAnswer g.O.Sink.allowed B.held B.pass.number) (sym i.0) i.5;
+      stands = subst (λ (n : ℕ). StandsAt g.L.LimitsName.limits n B.held B.faults B.pass (g.O.Sink.held old.sink.now) (g.O.Sink.faults old.sink.now) old.pass.now old.end) (sym i.0) i.4;
+    }
