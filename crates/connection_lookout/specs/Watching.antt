@@ -26,6 +26,11 @@ pub record Watch : Type 0 where
 abbrev pub watch : Known Item → Option (List Sighted) → Option (List Look) → Watch
 watch pass left gave = record { pass = pass; left = left; gave = gave }
 
+-- where the sighter of a connection stands, if it has one
+abbrev pub watch_of : Option (Known Item) → Option (List Sighted) → Option (List Look) → Option Watch
+watch_of None left gave = None
+watch_of (Some pass) left gave = Some (watch pass left gave)
+
 -- One look: at the process that an event names, what was seen of it, and whether it was taken out of the last load.
 pub record Turn : Type 0 where
   pub pid : ℕ
@@ -162,3 +167,11 @@ HasMet p None None = Unit {0}
 HasMet p None (Some w) = ⊥
 HasMet p (Some v) None = ⊥
 HasMet p (Some v) (Some w) = Meets p v w
+
+-- The same of the pass of a sighter, whose sights stay as they are.
+abbrev pub HasMetBy : Known Item → Known Item → Known Item → Type 0
+HasMetBy p v w = (left : Option (List Sighted)) (gave : Option (List Look)) → HasMet p (Some (watch v left gave)) (Some (watch w left gave))
+
+-- The same of a connection that has a sighter, or has none.
+abbrev pub HaveMet : Known Item → Option (Known Item) → Option (Known Item) → Type 0
+HaveMet p before now = (left : Option (List Sighted)) (gave : Option (List Look)) → HasMet p (watch_of before left gave) (watch_of now left gave)

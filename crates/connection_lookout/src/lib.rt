@@ -5,5 +5,5 @@
 mod lookout;
 mod unlistings;
 
-pub use lookout::{Lookout, NoLookout, ProcessLookout, SightFailed};
+pub use lookout::{NoSights, SightFailed, look, meet};
 pub use unlistings::unlistings_grow;

@@ -1,11 +1,10 @@
 // Whether a connection looks at processes, and what it does then.
-ghost use Rattle.std.specs.Prelude.{◌≡◌, ◌≤◌, ℕ, Bool, Some, None, is_err, not};
-ghost use mathlib.Core.List.{IsPrefix};
-ghost use Rattle.connection_lookout.specs.Watching.{Looks, HasMet, IsOut, TookOut, Watch, watch};
+ghost use Rattle.std.specs.Prelude.{◌≡◌, ◌≤◌, Bool, Some, is_err, not};
+ghost use Rattle.connection_lookout.specs.Watching.{Looks, HasMetBy, HaveMet, IsOut, TookOut, watch, watch_of};
 ghost use Rattle.connection_lookout.specs.Watching as watching;
 ghost use Rattle.history_lock.specs.Calls.{Learned};
 ghost use Rattle.history_lock.specs.declared.machine.TheConstants.{MOST_PASSES};
-ghost use Rattle.pk_outside.specs.Causes.{Rose, RoseWhere};
+ghost use Rattle.pk_outside.specs.Causes.{RoseWhere};
 ghost use Rattle.shared_authority.specs.Journals.{IsJournal, caller_of};
 
 use authority_model::Event;
@@ -13,96 +12,28 @@ use history_lock::{Pass, TableName};
 use pk_outside::{Sighted, Sights};
 use shared_authority::{Kept, LimitsName, Shared};
 use sight_events::named;
-use std::marker::PhantomData;
 use std::sync::Wait;
 
 /// A look at a process failed, and was counted.
 #[derive(Clone, Copy, Debug, PartialEq, Eq)]
 pub struct SightFailed;
 
-/// Whether a connection looks at the process that an event names before it hands the event in. The
-/// one that looks has a pass of its own: the sighter.
-pub trait Lookout<L: LimitsName, T: TableName> {
-    ghost use Rattle.std.specs.Prelude.{Option};
+/// Sights that are never asked: those of a connection that never looks.
+#[derive(Clone, Copy, Debug)]
+pub struct NoSights;
 
-    /// The sighter's pass.
-    type Sighter: Send;
+impl Sights for NoSights {
+    ghost use Rattle.std.specs.Prelude.{None};
 
-    /// What it looks with.
-    type Sights: Send;
+    ghost left = { λ _. None };
 
-    /// Where the sighter stands, and `None` where the connection never looks.
-    ghost watch: { Self.Sighter → Self.Sights → Option Watch };
+    ghost gave = { λ _. None };
 
-    /// How often a look has failed.
-    ghost faults: { Self.Sights → ℕ };
+    ghost faults = { λ _. 0 };
 
-    /// Takes one sighting of the process that an event names. Where this has ended, or another process
-    /// has its pid, the sighter enters the last load without it. Where this is refused the lock ends.
-    ///
-    /// # Errors
-    /// The look failed, and was counted.
-    fn look<R: Wait>(
-        rt: &R,
-        shared: &Shared<L, T>,
-        sighter: &mut Self::Sighter,
-        sights: &mut Self::Sights,
-        event: &Event,
-    ) -> Result<(), SightFailed>
-        ensures looks { Looks event.now (watch sighter.old sights.old) (watch sighter.new sights.new) (is_err result) }
-        ensures cause { RoseWhere (is_err result) (faults sights.old) (faults sights.new) };
-
-    /// The two passes of a connection and its sighter tell each other what they know.
-    fn meet(
-        shared: &Shared<L, T>,
-        pass: &mut Pass<Kept<L>, T>,
-        collector: &mut Pass<Kept<L>, T>,
-        sighter: &mut Self::Sighter,
-    )
-        ensures equal { (pass.new.history ≡ collector.new.history)
-            × (pass.new.made ≡ collector.new.made)
-            × (pass.new.ended ≡ collector.new.ended) }
-        ensures top { pass.new.made ≤ MOST_PASSES }
-        ensures first { Learned caller_of IsJournal pass.old pass.new }
-        ensures second { Learned caller_of IsJournal collector.old collector.new }
-        ensures third { (sights : Self.Sights) → HasMet pass.new (watch sighter.old sights) (watch sighter.new sights) };
-}
-
-/// A connection that never looks.
-pub struct NoLookout;
-
-impl<L: LimitsName, T: TableName> Lookout<L, T> for NoLookout {
-    type Sighter = ();
-
-    type Sights = ();
-
-    ghost watch = { λ sighter sights. None };
-
-    ghost faults = { λ sights. 0 };
-
-    fn look<R: Wait>(
-        _rt: &R,
-        _shared: &Shared<L, T>,
-        _sighter: &mut (),
-        _sights: &mut (),
-        _event: &Event,
-    ) -> Result<(), SightFailed> {
-        Ok(())
+    fn sight(&mut self, _pid: u32) -> Sighted {
+        Sighted::Gone
     }
-
-    fn meet(
-        shared: &Shared<L, T>,
-        pass: &mut Pass<Kept<L>, T>,
-        collector: &mut Pass<Kept<L>, T>,
-        _sighter: &mut (),
-    ) {
-        shared.meet(pass, collector);
-    }
-}
-
-/// A connection that looks at processes with these sights.
-pub struct ProcessLookout<G: Sights> {
-    with: PhantomData<G>,
 }
 
 /// Whether a look failed.
@@ -151,43 +82,96 @@ fn take_out<L: LimitsName, T: TableName, R: Wait>(
     }
 }
 
-impl<L: LimitsName + Send, T: TableName + Send, G: Sights> Lookout<L, T> for ProcessLookout<G> {
-    type Sighter = Pass<Kept<L>, T>;
-
-    type Sights = G;
-
-    ghost watch = { λ sighter sights. Some (watching.watch sighter (G.left sights) (G.gave sights)) };
-
-    ghost faults = { λ sights. G.faults sights };
-
-    fn look<R: Wait>(
-        rt: &R,
-        shared: &Shared<L, T>,
-        sighter: &mut Pass<Kept<L>, T>,
-        sights: &mut G,
-        event: &Event,
-    ) -> Result<(), SightFailed> {
-        let Some((pid, start)) = named(event) else {
-            return Ok(());
-        };
-        let sighted = sights.sight(pid);
-        if has_failed(sighted) {
-            return Err(SightFailed);
-        }
-        if has_ended(start, sighted) {
-            take_out(rt, shared, sighter, pid, start);
-        }
-        Ok(())
+/// Takes one sighting of the process that an event names, by the sighter.
+fn look_by<L: LimitsName, T: TableName, G: Sights, R: Wait>(
+    rt: &R,
+    shared: &Shared<L, T>,
+    sighter: &mut Pass<Kept<L>, T>,
+    sights: &mut G,
+    event: &Event,
+) -> Result<(), SightFailed>
+    ensures looks { Looks event.now (Some (watch sighter.old (G.left sights.old) (G.gave sights.old)))
+        (Some (watch sighter.new (G.left sights.new) (G.gave sights.new))) (is_err result) }
+    ensures cause { RoseWhere (is_err result) (G.faults sights.old) (G.faults sights.new) }
+{
+    let Some((pid, start)) = named(event) else {
+        return Ok(());
+    };
+    let sighted = sights.sight(pid);
+    if has_failed(sighted) {
+        return Err(SightFailed);
     }
+    if has_ended(start, sighted) {
+        take_out(rt, shared, sighter, pid, start);
+    }
+    Ok(())
+}
 
-    fn meet(
-        shared: &Shared<L, T>,
-        pass: &mut Pass<Kept<L>, T>,
-        collector: &mut Pass<Kept<L>, T>,
-        sighter: &mut Pass<Kept<L>, T>,
-    ) {
-        shared.meet(pass, sighter);
-        shared.meet(pass, collector);
-        shared.meet(pass, sighter);
+/// What a connection does before it hands an event in. One that has a sighter takes one sighting of
+/// the process that the event names. Where this has ended, or another process has its pid, the
+/// sighter enters the last load without it; where this is refused the lock ends. A connection that
+/// has no sighter does nothing: it never looks.
+///
+/// # Errors
+/// The look failed, and was counted.
+pub fn look<L: LimitsName, T: TableName, G: Sights, R: Wait>(
+    rt: &R,
+    shared: &Shared<L, T>,
+    sighter: &mut Option<Pass<Kept<L>, T>>,
+    sights: &mut G,
+    event: &Event,
+) -> Result<(), SightFailed>
+    // What the sighter saw and did, if there is one.
+    ensures looks { Looks event.now (watch_of sighter.old (G.left sights.old) (G.gave sights.old))
+        (watch_of sighter.new (G.left sights.new) (G.gave sights.new)) (is_err result) }
+    // A look that failed was counted, and no other.
+    ensures cause { RoseWhere (is_err result) (G.faults sights.old) (G.faults sights.new) }
+{
+    match sighter {
+        None => Ok(()),
+        Some(sighter) => look_by(rt, shared, sighter, sights, event),
+    }
+}
+
+/// The two passes of a connection and its sighter tell each other what they know.
+fn meet_three<L: LimitsName, T: TableName>(
+    shared: &Shared<L, T>,
+    pass: &mut Pass<Kept<L>, T>,
+    collector: &mut Pass<Kept<L>, T>,
+    sighter: &mut Pass<Kept<L>, T>,
+)
+    ensures equal { (pass.new.history ≡ collector.new.history)
+        × (pass.new.made ≡ collector.new.made)
+        × (pass.new.ended ≡ collector.new.ended) }
+    ensures top { pass.new.made ≤ MOST_PASSES }
+    ensures first { Learned caller_of IsJournal pass.old pass.new }
+    ensures second { Learned caller_of IsJournal collector.old collector.new }
+    ensures third { HasMetBy pass.new sighter.old sighter.new }
+{
+    shared.meet(pass, sighter);
+    shared.meet(pass, collector);
+    shared.meet(pass, sighter);
+}
+
+/// The two passes of a connection and its sighter, if it has one, tell each other what they know.
+pub fn meet<L: LimitsName, T: TableName>(
+    shared: &Shared<L, T>,
+    pass: &mut Pass<Kept<L>, T>,
+    collector: &mut Pass<Kept<L>, T>,
+    sighter: &mut Option<Pass<Kept<L>, T>>,
+)
+    // Both passes know the same.
+    ensures equal { (pass.new.history ≡ collector.new.history)
+        × (pass.new.made ≡ collector.new.made)
+        × (pass.new.ended ≡ collector.new.ended) }
+    ensures top { pass.new.made ≤ MOST_PASSES }
+    ensures first { Learned caller_of IsJournal pass.old pass.new }
+    ensures second { Learned caller_of IsJournal collector.old collector.new }
+    // And so does the sighter.
+    ensures third { HaveMet pass.new sighter.old sighter.new }
+{
+    match sighter {
+        None => shared.meet(pass, collector),
+        Some(sighter) => meet_three(shared, pass, collector, sighter),
     }
 }

@@ -29,6 +29,7 @@ reading_learned uid refused tail s t w l r = record {
   asks = r.asks;
   readings = r.readings;
   words = r.words;
+  watched = r.watched;
 }
 
 refused_learned : (uid : ℕ) (s t : Hand) (w : Known Item) → Learned caller_of IsJournal t.pass w → IsRefused uid s t → IsRefused uid s (record t { pass = w })
@@ -45,6 +46,7 @@ reads_learned limits uid s t ended w reader.Done l top r = ((reading_learned uid
 reads_learned limits uid s t ended w (reader.Truncated rest) l top r = ((reading_learned uid [] (What.Of Depart ∷ []) s t w l r.0.0, r.0.1), r.1, r.2, r.3, r.4)
 reads_learned limits uid s t ended w (reader.BadBytes fault at) l top r = ((reading_learned uid [] (What.Of Depart ∷ []) s t w l r.0.0, r.0.1), r.1)
 reads_learned limits uid s t ended w reader.ReadFault l top r = ((reading_learned uid [] (What.Of Depart ∷ []) s t w l r.0.0, r.0.1), r.1)
+reads_learned limits uid s t ended w reader.SightFault l top r = reading_learned uid [] (What.Of Depart ∷ []) s t w l r
 reads_learned limits uid s t ended w reader.NoMemory l top r = reading_learned uid [] (What.Of Depart ∷ []) s t w l r
 reads_learned limits uid s t ended w (reader.Ended cause) l top r =
     (refused_learned uid s t w l r.0, fits_lasts limits cause t.pass.history w.history t.pass.made w.made r.1 l.legal (learned_begins caller_of IsJournal t.pass w l) l.made top, (l.ended cause r.2).0)

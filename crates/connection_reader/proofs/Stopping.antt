@@ -17,6 +17,7 @@ reads_to limits uid s t ended stop.Done r is = ((r, none_partial t.unread is.0),
 reads_to limits uid s t ended (stop.Truncated rest) r is = ((r, none_partial t.unread is.0), is.0, is.1, is.2, is.3)
 reads_to limits uid s t ended (stop.BadBytes fault at) r is = ((r, none_bad t.unread fault at is), is)
 reads_to limits uid s t ended stop.ReadFault r is = ((r, none_partial t.unread is), is)
+reads_to limits uid s t ended stop.SightFault r is = r
 reads_to limits uid s t ended stop.NoMemory r is = r
 
 -- fewer bytes than are awaited are less than a message

@@ -1,6 +1,6 @@
 -- What the reading half of a connection has done.
 use Rattle.std.specs.Prelude.{◌≡◌, ◌⊎◌, ℕ, ◌<◌, List, [], ◌∷◌, ◌++◌, Option, Some, Bool, IsTrue, length, map}
-use Rattle.pk_outside.specs.Causes.{FailsLast}
+use Rattle.pk_outside.specs.Causes.{FailsLast, Rose}
 use Rattle.pk_outside.specs.Streams.{Gave, Got}
 use Rattle.history_lock.specs.Known.{Known}
 use Rattle.authority_model.specs.declared.event.Event.TheVariants.{Connect, Depart}
@@ -15,6 +15,7 @@ use Rattle.connection_laws.specs.Doings.{Did}
 use Rattle.connection_laws.specs.Knowing.{KnowsMore}
 use Rattle.connection_reader.specs.declared.ends.ReaderEnd.{ReaderEnd}
 use Rattle.connection_reader.specs.declared.ends.ReaderEnd.TheVariants as reader
+use Rattle.connection_lookout.specs.Watching.{Watch, Watched}
 
 -- the bytes begin with these messages, one after the other, and the rest follows
 abbrev pub Follow : List ℕ → List Seen → List ℕ → Type 0
@@ -29,16 +30,17 @@ asked messages = map (λ m. What.Of (event_of m)) messages
 abbrev pub due : ℕ → List Seen → List What
 due uid messages = What.Of (Connect uid) ∷ asked messages
 
--- What a reader has in hand: its pass, what the source will give, what the clock and the salt gave, and the bytes that were read and belong to no message yet.
+-- What a reader has in hand: its pass, what the source will give, what the clock and the salt gave, the bytes that were read and belong to no message yet, and where its sighter stands, if it has one.
 pub record Hand : Type 0 where
   pub pass : Known Item
   pub left : Option (List ℕ)
   pub readings : Option (List ℕ)
   pub words : Option (List ℕ)
   pub unread : List ℕ
+  pub watch : Option Watch
 
-abbrev pub hand : Known Item → Option (List ℕ) → Option (List ℕ) → Option (List ℕ) → List ℕ → Hand
-hand pass left readings words unread = record { pass = pass; left = left; readings = readings; words = words; unread = unread }
+abbrev pub hand : Known Item → Option (List ℕ) → Option (List ℕ) → Option (List ℕ) → List ℕ → Option Watch → Hand
+hand pass left readings words unread watch = record { pass = pass; left = left; readings = readings; words = words; unread = unread; watch = watch }
 
 -- From the hand s to the hand t the beginning of the connection and what its messages ask was handed in, each once and in order, and then the tail. What was refused is the last of it, and was not entered.
 pub record Reading (uid : ℕ) (refused : List Given) (tail : List What) (s t : Hand) : Type 0 where
@@ -58,6 +60,8 @@ pub record Reading (uid : ℕ) (refused : List Given) (tail : List What) (s t : 
   -- each took one reading of the clock and one random word
   pub readings : Got s.readings t.readings (map (λ g. g.moment) (handed ++ refused))
   pub words : Got s.words t.words (map (λ g. g.salt) (handed ++ refused))
+  -- the sighter looked before what each message asks
+  pub watched : Watched (map event_of messages) s.watch t.watch
 
 -- The connection goes on.
 abbrev pub IsUnderway : ℕ → Hand → Hand → Type 0
@@ -81,6 +85,7 @@ ReadsTo limits uid s t ended reader.Done = IsWhole uid s t × (t.unread ≡ []) 
 ReadsTo limits uid s t ended (reader.Truncated rest) = IsWhole uid s t × (next_of t.unread ≡ Partial) × (0 < rest) × (rest ≡ length t.unread) × IsTrue ended
 ReadsTo limits uid s t ended (reader.BadBytes kind at) = IsWhole uid s t × (next_of t.unread ≡ Bad kind at)
 ReadsTo limits uid s t ended reader.ReadFault = IsWhole uid s t × (next_of t.unread ≡ Partial)
+ReadsTo limits uid s t ended reader.SightFault = IsThrough uid s t
 ReadsTo limits uid s t ended reader.NoMemory = IsThrough uid s t
 ReadsTo limits uid s t ended (reader.Ended cause) = IsRefused uid s t × Fits limits cause t.pass.history t.pass.made × (t.pass.ended ≡ Some cause)
 
@@ -89,3 +94,9 @@ abbrev pub ReadFaults : {S : Type 0} → (S → Option (List ℕ)) → (S → �
 ReadFaults left faults before now reader.ReadFault = FailsLast left faults before now
 ReadFaults left faults before now (reader.Ended cause) = Unit {0}
 ReadFaults left faults before now other = faults now ≡ faults before
+
+-- A sight fault was counted by the last look, and by no look before it. Every other end leaves the count, but Ended may stand behind a sight fault.
+abbrev pub SightFaultsTo : ℕ → ℕ → ReaderEnd → Type 0
+SightFaultsTo before now reader.SightFault = Rose before now
+SightFaultsTo before now (reader.Ended cause) = Unit {0}
+SightFaultsTo before now other = now ≡ before

@@ -1,6 +1,6 @@
 -- Why no further message is handed in.
 use Rattle.std.specs.Prelude.{◌≡◌, ℕ, ◌<◌, List, [], ◌++◌, Option, Some, None, Bool, IsTrue, Result, Ok, Err, length}
-use Rattle.pk_outside.specs.Causes.{FailsLast}
+use Rattle.pk_outside.specs.Causes.{FailsLast, Rose}
 use Rattle.pk_outside.specs.Streams.{Gave}
 use Rattle.history_lock.specs.Known.{Known}
 use Rattle.history_lock.specs.declared.machine.EndCause.{EndCause}
@@ -19,6 +19,7 @@ end_of (Ok stop.Done) = reader.Done
 end_of (Ok (stop.Truncated rest)) = reader.Truncated rest
 end_of (Ok (stop.BadBytes kind at)) = reader.BadBytes kind at
 end_of (Ok stop.ReadFault) = reader.ReadFault
+end_of (Ok stop.SightFault) = reader.SightFault
 end_of (Ok stop.NoMemory) = reader.NoMemory
 end_of (Err cause) = reader.Ended cause
 
@@ -29,6 +30,7 @@ Stops ended unread (Some stop.Done) = (next_of unread ≡ Partial) × (unread �
 Stops ended unread (Some (stop.Truncated rest)) = (next_of unread ≡ Partial) × (0 < rest) × (rest ≡ length unread) × IsTrue ended
 Stops ended unread (Some (stop.BadBytes kind at)) = next_of unread ≡ Bad kind at
 Stops ended unread (Some stop.ReadFault) = next_of unread ≡ Partial
+Stops ended unread (Some stop.SightFault) = Unit {0}
 Stops ended unread (Some stop.NoMemory) = Unit {0}
 
 -- More was read behind what was unread.
@@ -51,3 +53,13 @@ StopFaults left faults before now other = faults now ≡ faults before
 abbrev pub TurnFaults : {S : Type 0} → (S → Option (List ℕ)) → (S → ℕ) → S → S → Result (Option ReadStop) EndCause → Type 0
 TurnFaults left faults before now (Ok stop) = StopFaults left faults before now stop
 TurnFaults left faults before now (Err cause) = faults now ≡ faults before
+
+-- A sight fault was counted by the last look, and by no look before it. Otherwise the count is as it was.
+abbrev pub SightFaults : ℕ → ℕ → Option ReadStop → Type 0
+SightFaults before now (Some stop.SightFault) = Rose before now
+SightFaults before now other = now ≡ before
+
+-- the same of what may be refused
+abbrev pub TurnSights : ℕ → ℕ → Result (Option ReadStop) EndCause → Type 0
+TurnSights before now (Ok stop) = SightFaults before now stop
+TurnSights before now (Err cause) = now ≡ before

@@ -17,6 +17,8 @@ pub enum ReaderEnd {
     BadBytes { kind: FaultKind, at: usize },
     /// The source counted a fault.
     ReadFault,
+    /// The look at the process that the next message names failed, and was counted.
+    SightFault,
     /// Memory was refused.
     NoMemory,
     /// Something that was handed in was refused, and the lock has ended by this cause.
@@ -34,6 +36,8 @@ pub enum ReadStop {
     BadBytes { kind: FaultKind, at: usize },
     /// The source counted a fault.
     ReadFault,
+    /// The look at the process that the next message names failed, and was counted.
+    SightFault,
     /// Memory was refused.
     NoMemory,
 }
@@ -47,6 +51,7 @@ pub fn end_of(read: Result<ReadStop, EndCause>) -> ReaderEnd
         Ok(ReadStop::Truncated { rest }) => ReaderEnd::Truncated { rest },
         Ok(ReadStop::BadBytes { kind, at }) => ReaderEnd::BadBytes { kind, at },
         Ok(ReadStop::ReadFault) => ReaderEnd::ReadFault,
+        Ok(ReadStop::SightFault) => ReaderEnd::SightFault,
         Ok(ReadStop::NoMemory) => ReaderEnd::NoMemory,
         Err(cause) => ReaderEnd::Ended { cause },
     }

@@ -1,103 +1,69 @@
 // The messages of a connection, one after another.
 ghost use Rattle.std.specs.Prelude.{◌≡◌, ◌≤◌, ℕ, Some, MatchResult};
 ghost use Rattle.history_lock.specs.Entries.{NoneBy};
-ghost use Rattle.dbus_values.specs.Next.{Partial, next_of};
 ghost use Rattle.shared_authority.specs.Journals.{caller_of};
-ghost use Rattle.connection_reader.specs.Reading.{Hand, IsRefused, IsUnderway, ReadsTo, ReadFaults, hand};
-ghost use Rattle.connection_reader.specs.Stops.{end_of, IsStoppedBy, ReadsOn, Stops, StopFaults, TurnFaults};
+ghost use Rattle.connection_lookout.specs.Watching.{IsFresh, watch_of};
+ghost use Rattle.connection_reader.specs.Reading.{Hand, IsRefused, IsUnderway, ReadsTo, ReadFaults, SightFaultsTo, hand};
+ghost use Rattle.connection_reader.specs.Stops.{end_of, IsStoppedBy, SightFaults, Stops, StopFaults, TurnFaults, TurnSights};
 
+use crate::common::Common;
 use crate::ends::{ReadStop, ReaderEnd, end_of};
 use crate::handing::{Answerer, hand_in};
+use crate::inbox::Inbox;
 use authority_model::Event;
-use connection_writer::{Begun, Desk};
-use dbus_values::awaited;
+use connection_lookout::{SightFailed, look};
+use connection_writer::Begun;
 use history_lock::{EndCause, Pass, TableName};
-use pk_outside::{Clock, Salt, Sink, Source};
-use shared_authority::{Kept, LimitsName, Shared};
-use source_buffer::{Filled, MessageBuffer};
-use std::alloc::Global;
-use std::sync::{Mutex, Wait};
-use usual_calls::{NextEvent, Usual, next_event};
+use pk_outside::{Clock, Salt, Sights, Sink, Source};
+use shared_authority::{Kept, LimitsName};
+use std::sync::Wait;
+use usual_calls::NextEvent;
 
-/// Reads on behind less than a message, until as many bytes are there as are awaited.
-fn read_on<I: Source>(source: &mut I, buffer: &mut MessageBuffer) -> Option<ReadStop>
-    requires partial { next_of buffer.old ≡ Partial }
-    ensures reads { ReadsOn (I.left source.old) (I.left source.new) (I.ended source.new) buffer.old buffer.new result }
-    ensures faults { StopFaults I.left I.faults source.old source.new result }
-    ensures later { I.faults source.old ≤ I.faults source.new }
-    ensures same { I.origin source.new ≡ I.origin source.old }
-{
-    let wanted = awaited(buffer.bytes());
-    match buffer.fill(source, wanted) {
-        Filled::There => None,
-        Filled::End => {
-            let rest = buffer.bytes().len();
-            if rest == 0 {
-                Some(ReadStop::Done)
-            } else {
-                Some(ReadStop::Truncated { rest })
-            }
-        }
-        Filled::ReadFault => Some(ReadStop::ReadFault),
-        Filled::NoMemory => Some(ReadStop::NoMemory),
-    }
-}
-
-/// Whether something was handed in since the last read.
-#[derive(Clone, Copy)]
-enum SinceRead {
-    Nothing,
-    Something,
-}
-
-/// Who answers a message with so many bytes behind it. Where it is all that a read gave, the reading
-/// half does. The writing half does where there is more to read first: so a client that sends many
-/// messages before it reads an answer never keeps the reading half from reading.
-fn answerer(since_read: SinceRead, behind: usize) -> Answerer {
-    match since_read {
-        SinceRead::Nothing if behind == 0 => Answerer::Reader,
-        _ => Answerer::Writer,
-    }
-}
-
-/// Hands in what the next message asks, or reads on.
+/// Hands in what the next message asks, or reads on. Where a process is named it is looked at before.
 ///
 /// # Errors
 /// As for `hand_in`.
-fn read_next<L: LimitsName, T: TableName, R: Wait, I: Source, C: Clock, S: Salt, O: Sink, B: Begun>(
-    rt: &R,
-    alloc: Global,
-    shared: &Shared<L, T>,
+fn read_next<
+    L: LimitsName,
+    T: TableName,
+    R: Wait,
+    I: Source,
+    C: Clock,
+    S: Salt,
+    G: Sights,
+    O: Sink,
+    B: Begun,
+>(
+    common: &Common<'_, '_, L, T, O, B, R>,
     pass: &mut Pass<Kept<L>, T>,
+    sighter: &mut Option<Pass<Kept<L>, T>>,
     clock: &mut C,
     salt: &mut S,
     source: &mut I,
-    buffer: &mut MessageBuffer,
-    since_read: &mut SinceRead,
-    usual: &mut Usual,
-    desk: &Mutex<Desk<'_, L, T, O, B>>,
+    sights: &mut G,
+    inbox: &mut Inbox,
 ) -> Result<Option<ReadStop>, EndCause>
-    ensures reads { (uid : ℕ) (s : Hand) → IsUnderway uid s (hand pass.old (I.left source.old) (C.gave clock.old) (S.gave salt.old) buffer.old)
-        → MatchResult result (λ _. IsUnderway uid s (hand pass.new (I.left source.new) (C.gave clock.new) (S.gave salt.new) buffer.new))
-        (λ _. IsRefused uid s (hand pass.new (I.left source.new) (C.gave clock.new) (S.gave salt.new) buffer.new)) }
-    ensures stops { MatchResult result (Stops (I.ended source.new) buffer.new) (λ cause. IsStoppedBy L.limits cause pass.new) }
+    ensures reads { (uid : ℕ) (s : Hand) → IsUnderway uid s (hand pass.old (I.left source.old) (C.gave clock.old) (S.gave salt.old) inbox.old (watch_of sighter.old (G.left sights.old) (G.gave sights.old)))
+        → MatchResult result (λ _. IsUnderway uid s (hand pass.new (I.left source.new) (C.gave clock.new) (S.gave salt.new) inbox.new (watch_of sighter.new (G.left sights.new) (G.gave sights.new))))
+        (λ _. IsRefused uid s (hand pass.new (I.left source.new) (C.gave clock.new) (S.gave salt.new) inbox.new (watch_of sighter.new (G.left sights.new) (G.gave sights.new)))) }
+    ensures stops { MatchResult result (Stops (I.ended source.new) inbox.new) (λ cause. IsStoppedBy L.limits cause pass.new) }
     ensures faults { TurnFaults I.left I.faults source.old source.new result }
+    ensures sights { TurnSights (G.faults sights.old) (G.faults sights.new) result }
     ensures later { I.faults source.old ≤ I.faults source.new }
     ensures same { I.origin source.new ≡ I.origin source.old }
 {
-    match next_event(alloc, usual, buffer.bytes()) {
+    match inbox.next_event() {
         NextEvent::Whole { event, used } => {
-            buffer.take(used);
-            let by = answerer(*since_read, buffer.bytes().len());
-            *since_read = SinceRead::Something;
-            hand_in(rt, shared, pass, clock, salt, event, by, desk)?;
+            match look(common.rt, common.shared, sighter, sights, &event) {
+                Ok(()) => {}
+                Err(SightFailed) => return Ok(Some(ReadStop::SightFault)),
+            }
+            let by = inbox.take(used);
+            hand_in(common, pass, clock, salt, event, by)?;
             Ok(None)
         }
         NextEvent::Bad { kind, at } => Ok(Some(ReadStop::BadBytes { kind, at })),
-        NextEvent::Partial => {
-            *since_read = SinceRead::Nothing;
-            Ok(read_on(source, buffer))
-        }
+        NextEvent::Partial => Ok(inbox.read_on(source)),
         NextEvent::NoMemory => Ok(Some(ReadStop::NoMemory)),
     }
 }
@@ -113,43 +79,30 @@ fn read_messages<
     I: Source,
     C: Clock,
     S: Salt,
+    G: Sights,
     O: Sink,
     B: Begun,
 >(
-    rt: &R,
-    alloc: Global,
-    shared: &Shared<L, T>,
+    common: &Common<'_, '_, L, T, O, B, R>,
     pass: &mut Pass<Kept<L>, T>,
+    sighter: &mut Option<Pass<Kept<L>, T>>,
     clock: &mut C,
     salt: &mut S,
     source: &mut I,
-    buffer: &mut MessageBuffer,
-    desk: &Mutex<Desk<'_, L, T, O, B>>,
+    sights: &mut G,
+    inbox: &mut Inbox,
 ) -> Result<ReadStop, EndCause>
-    ensures reads { (uid : ℕ) (s : Hand) → IsUnderway uid s (hand pass.old (I.left source.old) (C.gave clock.old) (S.gave salt.old) buffer.old)
-        → MatchResult result (λ _. IsUnderway uid s (hand pass.new (I.left source.new) (C.gave clock.new) (S.gave salt.new) buffer.new))
-        (λ _. IsRefused uid s (hand pass.new (I.left source.new) (C.gave clock.new) (S.gave salt.new) buffer.new)) }
-    ensures stops { MatchResult result (λ stop. Stops (I.ended source.new) buffer.new (Some stop)) (λ cause. IsStoppedBy L.limits cause pass.new) }
+    ensures reads { (uid : ℕ) (s : Hand) → IsUnderway uid s (hand pass.old (I.left source.old) (C.gave clock.old) (S.gave salt.old) inbox.old (watch_of sighter.old (G.left sights.old) (G.gave sights.old)))
+        → MatchResult result (λ _. IsUnderway uid s (hand pass.new (I.left source.new) (C.gave clock.new) (S.gave salt.new) inbox.new (watch_of sighter.new (G.left sights.new) (G.gave sights.new))))
+        (λ _. IsRefused uid s (hand pass.new (I.left source.new) (C.gave clock.new) (S.gave salt.new) inbox.new (watch_of sighter.new (G.left sights.new) (G.gave sights.new)))) }
+    ensures stops { MatchResult result (λ stop. Stops (I.ended source.new) inbox.new (Some stop)) (λ cause. IsStoppedBy L.limits cause pass.new) }
     ensures faults { MatchResult result (λ stop. StopFaults I.left I.faults source.old source.new (Some stop)) (λ _. I.faults source.new ≡ I.faults source.old) }
+    ensures sights { MatchResult result (λ stop. SightFaults (G.faults sights.old) (G.faults sights.new) (Some stop)) (λ _. G.faults sights.new ≡ G.faults sights.old) }
     ensures later { I.faults source.old ≤ I.faults source.new }
     ensures same { I.origin source.new ≡ I.origin source.old }
 {
-    let mut since_read = SinceRead::Nothing;
-    let mut usual = Usual::new(alloc);
-    for _turn in rt.forever() {
-        match read_next(
-            rt,
-            alloc,
-            shared,
-            pass,
-            clock,
-            salt,
-            source,
-            buffer,
-            &mut since_read,
-            &mut usual,
-            desk,
-        )? {
+    for _turn in common.rt.forever() {
+        match read_next(common, pass, sighter, clock, salt, source, sights, inbox)? {
             None => {}
             Some(stop) => return Ok(stop),
         }
@@ -161,30 +114,40 @@ fn read_messages<
 ///
 /// # Errors
 /// As for `hand_in`.
-fn read_all<L: LimitsName, T: TableName, R: Wait, I: Source, C: Clock, S: Salt, O: Sink, B: Begun>(
-    rt: &R,
-    alloc: Global,
-    shared: &Shared<L, T>,
+fn read_all<
+    L: LimitsName,
+    T: TableName,
+    R: Wait,
+    I: Source,
+    C: Clock,
+    S: Salt,
+    G: Sights,
+    O: Sink,
+    B: Begun,
+>(
+    common: &Common<'_, '_, L, T, O, B, R>,
     pass: &mut Pass<Kept<L>, T>,
+    sighter: &mut Option<Pass<Kept<L>, T>>,
     uid: u32,
     clock: &mut C,
     salt: &mut S,
     source: &mut I,
-    buffer: &mut MessageBuffer,
-    desk: &Mutex<Desk<'_, L, T, O, B>>,
+    sights: &mut G,
+    inbox: &mut Inbox,
 ) -> Result<ReadStop, EndCause>
     requires fresh { NoneBy caller_of pass.old.number pass.old.history }
-    ensures reads { ReadsTo L.limits uid (hand pass.old (I.left source.old) (C.gave clock.old) (S.gave salt.old) buffer.old)
-        (hand pass.new (I.left source.new) (C.gave clock.new) (S.gave salt.new) buffer.new) (I.ended source.new) (end_of result) }
+    requires fresh_sighter { IsFresh (watch_of sighter.old (G.left sights.old) (G.gave sights.old)) }
+    ensures reads { ReadsTo L.limits uid (hand pass.old (I.left source.old) (C.gave clock.old) (S.gave salt.old) inbox.old (watch_of sighter.old (G.left sights.old) (G.gave sights.old)))
+        (hand pass.new (I.left source.new) (C.gave clock.new) (S.gave salt.new) inbox.new (watch_of sighter.new (G.left sights.new) (G.gave sights.new))) (I.ended source.new) (end_of result) }
     ensures faults { ReadFaults I.left I.faults source.old source.new (end_of result) }
+    ensures sights { SightFaultsTo (G.faults sights.old) (G.faults sights.new) (end_of result) }
     ensures later { I.faults source.old ≤ I.faults source.new }
     ensures same { I.origin source.new ≡ I.origin source.old }
 {
     let by = Answerer::Writer;
-    let connect = Event::Connect { uid };
-    hand_in(rt, shared, pass, clock, salt, connect, by, desk)?;
-    let stop = read_messages(rt, alloc, shared, pass, clock, salt, source, buffer, desk)?;
-    hand_in(rt, shared, pass, clock, salt, Event::Depart, by, desk)?;
+    hand_in(common, pass, clock, salt, Event::Connect { uid }, by)?;
+    let stop = read_messages(common, pass, sighter, clock, salt, source, sights, inbox)?;
+    hand_in(common, pass, clock, salt, Event::Depart, by)?;
     Ok(stop)
 }
 
@@ -193,51 +156,59 @@ fn read_all<L: LimitsName, T: TableName, R: Wait, I: Source, C: Clock, S: Salt, 
 /// "org.freedesktop.PolicyKit1.Authority Interface"). Each takes one reading of the clock and one
 /// random word, and is an entry of the pass's connection.
 ///
-/// The messages are those of the bytes in the buffer and then of those that are read. The end of the
+/// The messages are those of the bytes in the inbox and then of those that are read. The end of the
 /// connection is handed in whatever stopped the messages, so that a writing half that waits for it
 /// goes on. Where a message is all that a read gave, its answer is written at the desk at once, and the
 /// writing half is not woken for it. Where something is refused the lock is ended by the cause of the
 /// refusal, and nothing more is handed in.
 ///
+/// A connection that looks at processes has a sighter. Before an event that names a process it takes
+/// one sighting of this. Where this fails the event is not handed in, nor any after it but the end of
+/// the connection.
+///
 /// # Errors
 /// `Ended` with the kept cause, only where something was refused; `BadBytes` exactly where the next
 /// message has a fault, with the first one and its place; `Truncated` exactly where the source ended
 /// inside a message; `ReadFault` exactly where the source counted a fault, which its last call did,
-/// and nothing was refused behind it; `NoMemory`, which may come in place of any other answer.
+/// and nothing was refused behind it; `SightFault` exactly where the last look failed, and nothing was
+/// refused behind it; `NoMemory`, which may come in place of any other answer.
 pub fn read_connection<
-    'a,
     L: LimitsName,
     T: TableName,
     R: Wait,
     I: Source,
     C: Clock,
     S: Salt,
+    G: Sights,
     O: Sink,
     B: Begun,
 >(
-    rt: &'a R,
-    alloc: Global,
-    shared: &'a Shared<L, T>,
+    common: &Common<'_, '_, L, T, O, B, R>,
     pass: &mut Pass<Kept<L>, T>,
+    sighter: &mut Option<Pass<Kept<L>, T>>,
     uid: u32,
     clock: &mut C,
     salt: &mut S,
     source: &mut I,
-    buffer: &mut MessageBuffer,
-    desk: &Mutex<Desk<'_, L, T, O, B>>,
+    sights: &mut G,
+    inbox: &mut Inbox,
 ) -> ReaderEnd
     // The connection has no item yet.
     requires fresh { NoneBy caller_of pass.old.number pass.old.history }
+    // Nor has its sighter.
+    requires fresh_sighter { IsFresh (watch_of sighter.old (G.left sights.old) (G.gave sights.old)) }
     // What was read was handed in, each message once and in order, and the connection's items are those of it.
-    ensures reads { ReadsTo L.limits uid (hand pass.old (I.left source.old) (C.gave clock.old) (S.gave salt.old) buffer.old)
-        (hand pass.new (I.left source.new) (C.gave clock.new) (S.gave salt.new) buffer.new) (I.ended source.new) result }
+    ensures reads { ReadsTo L.limits uid (hand pass.old (I.left source.old) (C.gave clock.old) (S.gave salt.old) inbox.old (watch_of sighter.old (G.left sights.old) (G.gave sights.old)))
+        (hand pass.new (I.left source.new) (C.gave clock.new) (S.gave salt.new) inbox.new (watch_of sighter.new (G.left sights.new) (G.gave sights.new))) (I.ended source.new) result }
     // A fault of the source is told exactly where it counted it, by its last call.
     ensures faults { ReadFaults I.left I.faults source.old source.new result }
+    // A fault of the sights is told exactly where they counted it.
+    ensures sights { SightFaultsTo (G.faults sights.old) (G.faults sights.new) result }
     ensures later { I.faults source.old ≤ I.faults source.new }
     // The source is from where it was.
     ensures same { I.origin source.new ≡ I.origin source.old }
 {
     end_of(read_all(
-        rt, alloc, shared, pass, uid, clock, salt, source, buffer, desk,
+        common, pass, sighter, uid, clock, salt, source, sights, inbox,
     ))
 }

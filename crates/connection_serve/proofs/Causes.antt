@@ -35,5 +35,6 @@ reader_faults content faults before now reader.ReadFault f = fails_rose content 
 reader_faults content faults before now reader.Done f = tt
 reader_faults content faults before now (reader.Truncated rest) f = tt
 reader_faults content faults before now (reader.BadBytes _ at) f = tt
+reader_faults content faults before now reader.SightFault f = tt
 reader_faults content faults before now reader.NoMemory f = tt
 reader_faults content faults before now (reader.Ended cause) f = tt

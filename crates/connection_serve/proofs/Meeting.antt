@@ -1,8 +1,9 @@
 -- What the two halves said goes on to hold, once their passes have learned of others' items.
 use Rattle.std.proofs.Common.{◌≡◌, ◌≢◌, ℕ, ◌≤◌, true, false, List, [], ◌∷◌, ◌++◌, Option, Some, Bool, inl, inr, ap, sym, ◌∙◌, subst}
-use Rattle.std.specs.Prelude.{reverse}
+use Rattle.std.specs.Prelude.{map, reverse}
 use Rattle.std.proofs.lemmas.List.{reverse-append}
 use mathlib.Core.List.{IsPrefix}
+use Rattle.authority_calls.specs.Events.{event_of}
 use Rattle.authority_laws.proofs.Sending.{sent_no_more, stays_departed}
 use Rattle.authority_model.specs.declared.journal.Item.{Item}
 use Rattle.authority_model.specs.declared.journal.Limits.{Limits}
@@ -15,7 +16,9 @@ use Rattle.connection_laws.proofs.Growing.{knows_learned, knows_trans}
 use Rattle.connection_laws.proofs.Taking.{taken_learned}
 use Rattle.connection_reader.specs.declared.ends.ReaderEnd.{ReaderEnd}
 use Rattle.connection_reader.specs.declared.ends.ReaderEnd.TheVariants as reader
+use Rattle.connection_lookout.proofs.Watching.{watched_met}
 use Rattle.connection_reader.specs.Reading.{Hand, IsRefused, Reading, ReadsTo}
+use Rattle.connection_lookout.specs.Watching.{HasMet, Watch}
 use Rattle.connection_writer.proofs.Writes.{writes_learned}
 use Rattle.connection_writer.specs.declared.ends.WriterEnd.{WriterEnd}
 use Rattle.connection_writer.specs.declared.ends.WriterEnd.TheVariants as writer
@@ -36,12 +39,12 @@ fits_learned limits cause w w' l top fits = fits_lasts limits cause w.history w'
 kept_learned : (cause : EndCause) (w w' : Known Item) → Learned caller_of IsJournal w w' → w.ended ≡ Some cause → w'.ended ≡ Some cause
 kept_learned cause w w' l kept = (l.ended cause kept).0
 
--- the hand of a reader whose pass stands for w
-abbrev pub with_pass : Hand → Known Item → Hand
-with_pass t w = record t { pass = w }
+-- the hand of a reader whose pass stands for w, and whose sighter stands there
+abbrev pub with_pass : Hand → Known Item → Option Watch → Hand
+with_pass t w x = record t { pass = w; watch = x }
 
-reading_learned : (uid : ℕ) (refused : List Given) (tail : List What) (s t : Hand) (w : Known Item) → Learned caller_of IsJournal t.pass w → Reading uid refused tail s t → Reading uid refused tail s (with_pass t w)
-reading_learned uid refused tail s t w l r = record {
+reading_learned : (uid : ℕ) (refused : List Given) (tail : List What) (s t : Hand) (w : Known Item) (x : Option Watch) → Learned caller_of IsJournal t.pass w → HasMet w t.watch x → Reading uid refused tail s t → Reading uid refused tail s (with_pass t w x)
+reading_learned uid refused tail s t w x l m r = record {
   knows = knows_trans s.pass t.pass w r.knows (knows_learned t.pass w l);
   read = r.read;
   gave = r.gave;
@@ -52,20 +55,22 @@ reading_learned uid refused tail s t w l r = record {
   asks = r.asks;
   readings = r.readings;
   words = r.words;
+  watched = watched_met (map event_of r.messages) w s.watch t.watch x r.watched m;
 }
 
-refused_learned : (uid : ℕ) (s t : Hand) (w : Known Item) → Learned caller_of IsJournal t.pass w → IsRefused uid s t → IsRefused uid s (with_pass t w)
-refused_learned uid s t w l (g, inl r) = (g, inl (reading_learned uid (g ∷ []) _ s t w l r))
-refused_learned uid s t w l (g, inr r) = (g, inr (reading_learned uid (g ∷ []) _ s t w l r))
+refused_learned : (uid : ℕ) (s t : Hand) (w : Known Item) (x : Option Watch) → Learned caller_of IsJournal t.pass w → HasMet w t.watch x → IsRefused uid s t → IsRefused uid s (with_pass t w x)
+refused_learned uid s t w x l m (g, inl r) = (g, inl (reading_learned uid (g ∷ []) _ s t w x l m r))
+refused_learned uid s t w x l m (g, inr r) = (g, inr (reading_learned uid (g ∷ []) _ s t w x l m r))
 
 -- what the reader said
-pub reads_met : (limits : Limits) (uid : ℕ) (s t : Hand) (ended : Bool) (end : ReaderEnd) (w : Known Item) → Learned caller_of IsJournal t.pass w → w.made ≤ MOST_PASSES → ReadsTo limits uid s t ended end → ReadsTo limits uid s (with_pass t w) ended end
-reads_met limits uid s t ended reader.Done w l top r = ((reading_learned uid [] _ s t w l r.0.0, r.0.1), r.1, r.2)
-reads_met limits uid s t ended (reader.Truncated rest) w l top r = ((reading_learned uid [] _ s t w l r.0.0, r.0.1), r.1, r.2, r.3, r.4)
-reads_met limits uid s t ended (reader.BadBytes _ at) w l top r = ((reading_learned uid [] _ s t w l r.0.0, r.0.1), r.1)
-reads_met limits uid s t ended reader.ReadFault w l top r = ((reading_learned uid [] _ s t w l r.0.0, r.0.1), r.1)
-reads_met limits uid s t ended reader.NoMemory w l top r = reading_learned uid [] _ s t w l r
-reads_met limits uid s t ended (reader.Ended cause) w l top r = (refused_learned uid s t w l r.0, fits_learned limits cause t.pass w l top r.1, kept_learned cause t.pass w l r.2)
+pub reads_met : (limits : Limits) (uid : ℕ) (s t : Hand) (ended : Bool) (end : ReaderEnd) (w : Known Item) (x : Option Watch) → Learned caller_of IsJournal t.pass w → HasMet w t.watch x → w.made ≤ MOST_PASSES → ReadsTo limits uid s t ended end → ReadsTo limits uid s (with_pass t w x) ended end
+reads_met limits uid s t ended reader.Done w x l m top r = ((reading_learned uid [] _ s t w x l m r.0.0, r.0.1), r.1, r.2)
+reads_met limits uid s t ended (reader.Truncated rest) w x l m top r = ((reading_learned uid [] _ s t w x l m r.0.0, r.0.1), r.1, r.2, r.3, r.4)
+reads_met limits uid s t ended (reader.BadBytes _ at) w x l m top r = ((reading_learned uid [] _ s t w x l m r.0.0, r.0.1), r.1)
+reads_met limits uid s t ended reader.ReadFault w x l m top r = ((reading_learned uid [] _ s t w x l m r.0.0, r.0.1), r.1)
+reads_met limits uid s t ended reader.SightFault w x l m top r = reading_learned uid [] _ s t w x l m r
+reads_met limits uid s t ended reader.NoMemory w x l m top r = reading_learned uid [] _ s t w x l m r
+reads_met limits uid s t ended (reader.Ended cause) w x l m top r = (refused_learned uid s t w x l m r.0, fits_learned limits cause t.pass w l top r.1, kept_learned cause t.pass w l r.2)
 
 -- one history begins another
 turned : (h more : List Item) → IsPrefix h more → (later : List Item) × (past_of more ≡ later ++ past_of h)

@@ -15,6 +15,7 @@ use Rattle.connection_laws.specs.Doings.{Did}
 use Rattle.connection_reader.specs.declared.ends.ReaderEnd.{ReaderEnd}
 use Rattle.connection_reader.specs.declared.ends.ReaderEnd.TheVariants as reader
 use Rattle.connection_reader.specs.Reading.{Hand, Reading, ReadsTo, hand}
+use Rattle.connection_lookout.specs.Watching.{HasMet, Watch}
 use Rattle.connection_serve.proofs.Causes.{front_all, front_got, rose_above}
 use Rattle.connection_serve.proofs.Meeting.{reads_met, with_pass, writes_met}
 use Rattle.connection_serve.specs.declared.ends.End.{End}
@@ -38,11 +39,11 @@ use Rattle.shared_authority.specs.Journals.{Fits, IsJournal, caller_of, past_of}
 -- # The meeting
 
 -- the two halves go on to say what they said
-pub halves_met : (limits : Limits) (uid : ℕ) (s t : Hand) (ended : Bool) (v w : Known Item) (a b : Option (List ℕ)) (r0 r1 w0 w1 : ℕ) (read : ReaderEnd) (wrote : WriterEnd) (p c : Known Item)
-    → s.pass.number ≢ 0 → Learned caller_of IsJournal t.pass p → Learned caller_of IsJournal w c → p.made ≤ MOST_PASSES → c.made ≤ MOST_PASSES
-    → Halves limits uid s t ended v w a b r0 r1 w0 w1 read wrote → Halves limits uid s (with_pass t p) ended v c a b r0 r1 w0 w1 read wrote
-halves_met limits uid s t ended v w a b r0 r1 w0 w1 read wrote p c other lp lc top_p top_c h = record {
-  reads = reads_met limits uid s t ended read p lp top_p h.reads;
+pub halves_met : (limits : Limits) (uid : ℕ) (s t : Hand) (ended : Bool) (v w : Known Item) (a b : Option (List ℕ)) (r0 r1 w0 w1 : ℕ) (read : ReaderEnd) (wrote : WriterEnd) (p c : Known Item) (x : Option Watch)
+    → s.pass.number ≢ 0 → Learned caller_of IsJournal t.pass p → Learned caller_of IsJournal w c → HasMet p t.watch x → p.made ≤ MOST_PASSES → c.made ≤ MOST_PASSES
+    → Halves limits uid s t ended v w a b r0 r1 w0 w1 read wrote → Halves limits uid s (with_pass t p x) ended v c a b r0 r1 w0 w1 read wrote
+halves_met limits uid s t ended v w a b r0 r1 w0 w1 read wrote p c x other lp lc m top_p top_c h = record {
+  reads = reads_met limits uid s t ended read p x lp m top_p h.reads;
   read_cause = h.read_cause;
   writes = writes_met limits s.pass.number a w0 v b w1 w wrote c other lc top_c h.writes;
 }
@@ -50,10 +51,10 @@ halves_met limits uid s t ended v w a b r0 r1 w0 w1 read wrote p c other lp lc t
 -- # The reader
 
 -- how far a reader came
-abbrev story_of : (uid : ℕ) (refused : List Given) (tail : List What) (s t : Hand) → Reading uid refused tail s t → Story
+abbrev pub story_of : (uid : ℕ) (refused : List Given) (tail : List What) (s t : Hand) → Reading uid refused tail s t → Story
 story_of uid refused tail s t r = record { messages = r.messages; rest = t.unread; entered = r.handed; refused = refused; tail = tail }
 
-story_told : (uid : ℕ) (refused : List Given) (tail : List What) (s t : Hand) (r : Reading uid refused tail s t) → Tells uid s.pass.number (s.unread ++ r.read) t.pass.history (story_of uid refused tail s t r)
+pub story_told : (uid : ℕ) (refused : List Given) (tail : List What) (s t : Hand) (r : Reading uid refused tail s t) → Tells uid s.pass.number (s.unread ++ r.read) t.pass.history (story_of uid refused tail s t r)
 story_told uid refused tail s t r = record { follow = r.stream; asks = r.asks; did = r.did }
 
 -- What a reader did, whatever its end.
@@ -165,6 +166,7 @@ module _ (limits : Limits) (uid : ℕ) (s t : Hand) (ended : Bool) (v w : Known 
   late (reader.Truncated rest) r cause = through (end.Truncated rest) r.0.0 (λ whole all is. (r.1, used r.4, r.3, r.2, record { whole = whole; none_left = r.0.1; all_written = all is })) tt
   late (reader.BadBytes kind at) r cause = through (end.BadBytes kind at) r.0.0 (λ whole all is. (r.1, record { whole = whole; none_left = r.0.1; all_written = all is })) tt
   late reader.ReadFault r cause = through end.ReadFault r.0.0 (λ whole all is. (rose_above r0 r1 cause, r.1, record { whole = whole; none_left = r.0.1; all_written = all is })) cause
+  late reader.SightFault r cause = through end.NoMemory r (λ whole all is. whole) tt
   late reader.NoMemory r cause = through end.NoMemory r (λ whole all is. whole) tt
   late (reader.Ended kept) r cause = refused r.0
     where
@@ -178,6 +180,7 @@ module _ (limits : Limits) (uid : ℕ) (s t : Hand) (ended : Bool) (v w : Known 
   late_told history made kept (reader.Truncated rest) r = told_same limits (with_writer (end.Truncated rest) wrote) t.pass w history made kept (told_by (end.Truncated rest) limits s.pass.number a w0 v b w1 w wrote writes (tt, tt))
   late_told history made kept (reader.BadBytes kind at) r = told_same limits (with_writer (end.BadBytes kind at) wrote) t.pass w history made kept (told_by (end.BadBytes kind at) limits s.pass.number a w0 v b w1 w wrote writes (tt, tt))
   late_told history made kept reader.ReadFault r = told_same limits (with_writer end.ReadFault wrote) t.pass w history made kept (told_by end.ReadFault limits s.pass.number a w0 v b w1 w wrote writes (tt, tt))
+  late_told history made kept reader.SightFault r = told_same limits (with_writer end.NoMemory wrote) t.pass w history made kept (told_by end.NoMemory limits s.pass.number a w0 v b w1 w wrote writes (tt, tt))
   late_told history made kept reader.NoMemory r = told_same limits (with_writer end.NoMemory wrote) t.pass w history made kept (told_by end.NoMemory limits s.pass.number a w0 v b w1 w wrote writes (tt, tt))
   late_told history made kept (reader.Ended cause) r = (r.1, r.2)
 
@@ -188,13 +191,13 @@ greets : (uid guid : ℕ) (l0 l1 h0 h1 : Option (List ℕ)) (rest : List ℕ) (o
 greets uid guid l0 l1 h0 h1 rest o more = ap (λ (x : Shaken). reply_lines guid x.replies) (o.settles.answered more)
 
 -- where the messages began
-pub late_serves : (limits : Limits) (uid guid : ℕ) (p p' v w : Known Item) (l0 l1 l2 h0 h1 h2 g0 g1 s0 s1 s2 : Option (List ℕ)) (rest rest' : List ℕ) (ended : Bool) (r0 r r1 w0 ws w1 : ℕ) (e : End) → IsFresh p v
+pub late_serves : (limits : Limits) (uid guid : ℕ) (p p' v w : Known Item) (l0 l1 l2 h0 h1 h2 g0 g1 s0 s1 s2 : Option (List ℕ)) (rest rest' : List ℕ) (a b : Option Watch) (ended : Bool) (r0 r r1 w0 ws w1 : ℕ) (e : End) → IsFresh p v
     → HasBegun uid guid l0 l1 h0 h1 rest × (r ≡ r0) × (ws ≡ w0) → Got s0 s1 (guid ∷ []) → (IsTrue ended → IsUsedUp l2)
-    → Meets limits uid (hand p l1 g0 s1 rest) (hand p' l2 g1 s2 rest') ended v w h1 h2 r r1 ws w1 e
+    → Meets limits uid (hand p l1 g0 s1 rest a) (hand p' l2 g1 s2 rest' b) ended v w h1 h2 r r1 ws w1 e
     → Serves limits uid p p' l0 l2 h0 h2 g0 g1 s0 s2 r0 r1 w0 w1 e × IsCollected v.number p'.number p'.history h0 h2
-late_serves limits uid guid p p' v w l0 l1 l2 h0 h1 h2 g0 g1 s0 s1 s2 rest rest' ended r0 r r1 w0 ws w1 e fresh (o, same_reads, same_writes) word used met =
-    let s = hand p l1 g0 s1 rest in
-    let t = hand p' l2 g1 s2 rest' in
+late_serves limits uid guid p p' v w l0 l1 l2 h0 h1 h2 g0 g1 s0 s1 s2 rest rest' a b ended r0 r r1 w0 ws w1 e fresh (o, same_reads, same_writes) word used met =
+    let s = hand p l1 g0 s1 rest a in
+    let t = hand p' l2 g1 s2 rest' b in
     let m : Meets limits uid s t ended v w h1 h2 r0 r1 w0 w1 e = subst (λ (k : ℕ). Meets limits uid s t ended v w h1 h2 r0 r1 k w1 e) same_writes (subst (λ (k : ℕ). Meets limits uid s t ended v w h1 h2 k r1 ws w1 e) same_reads met) in
     let x : Late uid s t v w h1 h2 r0 r1 w0 w1 e = subst (Late uid s t v w h1 h2 r0 r1 w0 w1) (sym m.end_is) (late limits uid s t ended v w h1 h2 r0 r1 w0 w1 used m.wrote m.halves.writes m.read m.halves.reads m.halves.read_cause) in
     let told : EndTold limits e p' = subst (λ (f : End). EndTold limits f p') (sym m.end_is) (late_told limits uid s t ended v w h1 h2 r0 r1 w0 w1 used m.wrote m.halves.writes m.same_history m.same_made m.same_ended m.read m.halves.reads) in

@@ -1,4 +1,5 @@
 pub mod Ends
 pub mod Headline
 pub mod Halves
+pub mod Live
 pub mod Promises

@@ -3,9 +3,9 @@ ghost use Rattle.std.specs.Prelude.{◌≡◌};
 ghost use Rattle.connection_serve.specs.Headline.{IsCollected, IsFresh, Serves};
 ghost use Rattle.connection_serve.specs.Promises.{MaySend};
 
-use crate::ends::End;
-use crate::halves::serve_messages;
-use crate::opening::greet;
+use crate::body::serve_with;
+use crate::ends::{End, LiveEnd};
+use connection_lookout::NoSights;
 use history_lock::{Pass, TableName};
 use pk_outside::{Clock, Salt, Sink, Source};
 use shared_authority::{Kept, LimitsName, Shared};
@@ -66,24 +66,22 @@ pub fn serve_connection<
         × (collector.new.made ≡ pass.new.made)
         × (collector.new.ended ≡ pass.new.ended) }
 {
-    let guid = salt.word();
-    match greet(alloc, uid, guid, source, sink) {
-        Ok(mut buffer) => serve_messages(
-            rt,
-            alloc,
-            shared,
-            pass,
-            collector,
-            uid,
-            clock,
-            salt,
-            source,
-            sink,
-            &mut buffer,
-        ),
-        Err(end) => {
-            shared.meet(pass, collector);
-            end
-        }
+    let end = serve_with(
+        rt,
+        alloc,
+        shared,
+        pass,
+        collector,
+        &mut None,
+        uid,
+        clock,
+        salt,
+        source,
+        sink,
+        &mut NoSights,
+    );
+    match end {
+        LiveEnd::Plain(end) => end,
+        LiveEnd::SightFault => unreachable!(),
     }
 }

@@ -1,6 +1,6 @@
 // How a connection ends.
 ghost use Rattle.std.specs.Prelude.{◌≡◌};
-ghost use Rattle.connection_serve.specs.Ends.{end_of, with_writer};
+ghost use Rattle.connection_serve.specs.Ends.{end_of, live_end_of, with_writer};
 
 use connection_reader::ReaderEnd;
 use connection_writer::WriterEnd;
@@ -32,6 +32,16 @@ pub enum End {
     NoMemory,
 }
 
+/// How a connection ended that may look at processes.
+#[derive(Clone, Copy, Debug, PartialEq, Eq)]
+pub enum LiveEnd {
+    /// The look at the process that the next message names failed, and was counted. It is answered in
+    /// place of each other end but `Ended`, `WriteFault` and `NoMemory`.
+    SightFault,
+    /// The end that a connection has which never looks.
+    Plain(End),
+}
+
 /// The end of a connection whose reader ended without the lock's end, as this end says.
 fn with_writer(end: End, wrote: WriterEnd) -> End
     ensures { result ≡ with_writer end wrote }
@@ -44,8 +54,9 @@ fn with_writer(end: End, wrote: WriterEnd) -> End
     }
 }
 
-/// The end of a connection, by those of its reader and of its writer.
-pub fn end_of(read: ReaderEnd, wrote: WriterEnd) -> End
+/// The end of a connection, by those of its reader and of its writer. A look that failed is told apart
+/// by `live_end_of`.
+fn end_of(read: ReaderEnd, wrote: WriterEnd) -> End
     ensures { result ≡ end_of read wrote }
 {
     match read {
@@ -54,6 +65,16 @@ pub fn end_of(read: ReaderEnd, wrote: WriterEnd) -> End
         ReaderEnd::BadBytes { kind, at } => with_writer(End::BadBytes { kind, at }, wrote),
         ReaderEnd::Truncated { rest } => with_writer(End::Truncated { rest }, wrote),
         ReaderEnd::Done => with_writer(End::Done, wrote),
-        ReaderEnd::NoMemory => with_writer(End::NoMemory, wrote),
+        ReaderEnd::SightFault | ReaderEnd::NoMemory => with_writer(End::NoMemory, wrote),
+    }
+}
+
+/// The end of a connection that may look at processes, by those of its reader and of its writer.
+pub fn live_end_of(read: ReaderEnd, wrote: WriterEnd) -> LiveEnd
+    ensures { result ≡ live_end_of read wrote }
+{
+    match (read, wrote) {
+        (ReaderEnd::SightFault, WriterEnd::All) => LiveEnd::SightFault,
+        _ => LiveEnd::Plain(end_of(read, wrote)),
     }
 }

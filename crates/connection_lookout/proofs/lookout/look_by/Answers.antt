@@ -2,7 +2,7 @@ use Rattle.std.proofs.Common.{false, true, ap, sym, ◌∙◌, refl, inl}
 use Rattle.std.specs.Prelude.{not}
 use Rattle.connection_lookout.proofs.Lookouts.{failed_not_ended, living_not_ended, look_cause, one_look}
 use Rattle.connection_lookout.specs.Watching.{Watch, watch}
-use Rattle.connection_lookout.proofs.lookout.ProcessLookoutLookout.look.Goals as goal
+use Rattle.connection_lookout.proofs.lookout.look_by.Goals as goal
 
 pub returns-then-has_failed : goal.returns-then-has_failed
 returns-then-has_failed g c =

@@ -1,6 +1,6 @@
 use Rattle.std.proofs.Common.{ap, length}
 use Rattle.connection_reader.proofs.Stopping.{positive, still_partial}
-use Rattle.connection_reader.proofs.reading.read_on.Goals as goal
+use Rattle.connection_reader.proofs.inbox.read_on.Goals as goal
 
 pub returns-else-rest-eq0-clause-reads : goal.returns-else-rest-eq0-clause-reads
 returns-else-rest-eq0-clause-reads g c =

@@ -1,7 +1,7 @@
 use Rattle.history_lock.proofs.Growth.{learned_trans}
 use Rattle.shared_authority.specs.Journals.{IsJournal, caller_of}
 use Rattle.connection_lookout.proofs.Lookouts.{meets_again, sighter_met}
-use Rattle.connection_lookout.proofs.lookout.ProcessLookoutLookout.meet.Goals as goal
+use Rattle.connection_lookout.proofs.lookout.meet_three.Goals as goal
 
 pub returns-clause-equal : goal.returns-clause-equal
 returns-clause-equal g c =
@@ -16,6 +16,6 @@ returns-clause-first g c =
     (learned_trans caller_of IsJournal c.meet.new.first c.meet-2.new.first c.meet-3.new.first c.meet-2.ensures.first c.meet-3.ensures.first)
 
 pub returns-clause-third : goal.returns-clause-third
-returns-clause-third g c = λ sights.
+returns-clause-third g c = λ left gave.
     let three = c.meet-3.ensures in
-    sighter_met c.meet-3.new.first c.args.sighter.now c.meet.new.second c.meet-3.new.second (g.G.Sights.left sights) (g.G.Sights.gave sights) c.meet.ensures.second three.second three.equal.0 three.equal.1 three.equal.2
+    sighter_met c.meet-3.new.first c.args.sighter.now c.meet.new.second c.meet-3.new.second left gave c.meet.ensures.second three.second three.equal.0 three.equal.1 three.equal.2
