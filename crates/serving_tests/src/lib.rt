@@ -8,6 +8,8 @@ mod connections;
 #[cfg(test)]
 mod idle_doors;
 #[cfg(test)]
+mod live_connections;
+#[cfg(test)]
 mod loaders;
 #[cfg(test)]
 mod passes;
