@@ -5,3 +5,4 @@ pub mod FirstLoad
 pub mod Serving
 pub mod RunsEnd
 pub mod Joining
+pub mod Promised

@@ -8,3 +8,4 @@ pub mod Service
 pub mod Printing
 pub mod Begun
 pub mod Ends
+pub mod Promises

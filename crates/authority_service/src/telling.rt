@@ -1,11 +1,12 @@
 // What a service writes at its end, and how it ends.
 ghost use Rattle.std.specs.Prelude.{◌≡◌, ◌≤◌, ◌+◌, ◌*◌, ◌⊎◌, ℕ, IfOk, IsTrue, List, None, OnErr, OnOk, Some, flat_map, length};
 ghost use Rattle.std.specs.List.{list_any};
-ghost use Rattle.pk_outside.specs.Allowing.{IsFree};
+ghost use Rattle.pk_outside.specs.Allowing.{MayFronts};
 ghost use Rattle.authority_model.specs.Items.{items_of};
 ghost use Rattle.authority_service.specs.Service.{AreAllLoads, end_of, end_of_stops, has_failed_door, has_no_memory};
 ghost use Rattle.authority_service.specs.Printing.{IsSound, WasPrinted, WasUntold, WrittenAs};
 ghost use Rattle.authority_service.specs.Lines.{closing_text, service_text};
+ghost use Rattle.authority_service.specs.Promises.{MayClose};
 ghost use Rattle.authority_model.specs.declared.journal.Item.{Item};
 ghost use Rattle.audit_text.specs.Audit.{audit_text};
 ghost use Rattle.journal_scan.specs.Orderly.{AreCounts};
@@ -95,9 +96,8 @@ struct Found {
 }
 
 /// Writes the lines that were found. Whether all were written.
-#[tactic(auto, using(pk_outside::proofs::Going::may_go_free))]
 fn write_lines<O: Sink>(alloc: Global, found: &Found, output: &mut O) -> Result<bool, NoMemory>
-    requires free { IsFree O.allowed }
+    requires may { (past : List Item) × AreCounts past found.now.counts × MayFronts O.allowed (O.held output.old) (service_text past found.now.lines.items) }
     ensures wrote { IfOk result (λ written. (past : List Item) → AreCounts past found.now.counts →
         WrittenAs (O.held output.old) (O.held output.new) (O.faults output.old) (O.faults output.new) (service_text past found.now.lines.items) written) }
     ensures refused { OnErr result (O.held output.new ≡ O.held output.old) }
@@ -109,7 +109,7 @@ fn write_lines<O: Sink>(alloc: Global, found: &Found, output: &mut O) -> Result<
 
 /// Writes the audit text of a journal. Whether all was written.
 fn write_audit<O: Sink>(alloc: Global, journal: &History, output: &mut O) -> Result<bool, NoMemory>
-    requires free { IsFree O.allowed }
+    requires may { MayFronts O.allowed (O.held output.old) (audit_text journal.now) }
     ensures wrote { IfOk result (WrittenAs (O.held output.old) (O.held output.new) (O.faults output.old) (O.faults output.new) (audit_text journal.now)) }
     ensures refused { OnErr result (O.held output.new ≡ O.held output.old) }
     ensures later { O.faults output.old ≤ O.faults output.new }
@@ -182,7 +182,7 @@ impl Ran {
         found: &Found,
         output: &mut O,
     ) -> Result<bool, NoMemory>
-        requires free { IsFree O.allowed }
+        requires may { MayFronts O.allowed (O.held output.old) (closing_text audit self.now.authority.history found.now.lines.items) }
         requires counts { AreCounts (items_of self.now.authority.history) found.now.counts }
         ensures wrote { IfOk result (WrittenAs (O.held output.old) (O.held output.new) (O.faults output.old) (O.faults output.new) (closing_text audit self.now.authority.history found.now.lines.items)) }
         ensures refused { OnErr result (O.held output.new ≡ O.held output.old) }
@@ -197,7 +197,7 @@ impl Ran {
 
     /// Writes the closing text, and answers how the service ended.
     pub fn tell<O: Sink>(&self, alloc: Global, audit: bool, output: &mut O) -> ServiceEnd
-        requires free { IsFree O.allowed }
+        requires may { MayClose O.allowed (O.held output.old) audit self.now.authority.history (flat_map (λ s. s.lines.items) self.now.slots.items) }
         ensures told { WasUntold (O.held output.old) (O.held output.new) result
             ⊎ WasPrinted audit self.now.authority.history (flat_map (λ s. s.lines.items) self.now.slots.items) self.now.cause self.now.slots.items (O.held output.old) (O.held output.new) (O.faults output.old) (O.faults output.new) result }
         ensures later { O.faults output.old ≤ O.faults output.new }

@@ -2,7 +2,6 @@
 ghost use Rattle.std.specs.Prelude.{◌≡◌, ◌≢◌, ◌≤◌, [], IfErr, IfOk, IfSome, None, Ok, Option, ℕ, vec_len};
 ghost use mathlib.Core.List.{IsPrefix};
 ghost use Rattle.authority_model.specs.declared.load.Loaded.{Loaded};
-ghost use Rattle.pk_outside.specs.Allowing.{IsFree};
 ghost use Rattle.connection_serve.specs.Promises.{MayServe};
 ghost use Rattle.pk_outside.specs.Trees.{TreeTold};
 ghost use Rattle.policy_load.specs.Loads.{load_of};
@@ -11,6 +10,7 @@ ghost use Rattle.authority_service.specs.Beginning.{BeginsWith};
 ghost use Rattle.authority_service.specs.Begun.{HasRun, IsShort, objects, unbegun_by};
 ghost use Rattle.authority_service.specs.Service.{Serves, outside, slots_of};
 ghost use Rattle.authority_service.specs.Ends.{end_of_refused};
+ghost use Rattle.authority_service.specs.Promises.{MayPrint, MayPrintFrom};
 ghost use Rattle.serve_words.specs.Plans.{IsAllowed};
 ghost use Rattle.shared_authority.specs.Journals.{past_of};
 
@@ -213,7 +213,6 @@ where
 
 /// Writes what the first load skipped, serves the slots, and writes the closing text; where the audit text
 /// is asked for it stands in place of all lines.
-#[tactic(auto, using(pk_outside::proofs::Going::may_go_free))]
 fn serve_loaded<F, N, O, R>(
     rt: &R,
     alloc: Global,
@@ -229,7 +228,7 @@ where
     O: Sink,
     R: Threads + Wait + Sync,
     requires allowed { IsAllowed plan.now }
-    requires free { IsFree O.allowed }
+    requires may { MayPrintFrom O.allowed (O.held output.old) plan.now first }
     requires may_serve { MayServe N.Door.Link.Out.allowed }
     ensures served { (told : Option TreeTold) (from : ℕ) → told ≡ F.told tree.old → IfSome told (λ t. load_of t plan.now.root ≡ Ok first)
         → Serves plan.now (outside told from (F.faults tree.new) (N.told station.old) (N.told station.new)
@@ -282,7 +281,9 @@ where
     O: Sink,
     R: Threads + Wait + Sync,
     requires allowed { IsAllowed plan.now }
-    requires free { IsFree O.allowed }
+    // Each prefix may be written of what is printed of the first load and of some legal journal.
+    requires may { MayPrint O.allowed (O.held output.old) plan.now (F.told tree.old) }
+    // Each prefix of a talk with a connection may be written to its link.
     requires may_serve { MayServe N.Door.Link.Out.allowed }
     ensures served { Serves plan.now (outside (F.told tree.old) (F.faults tree.old) (F.faults tree.new) (N.told station.old) (N.told station.new)
         (N.faults station.old) (N.faults station.new) (O.held output.old) (O.held output.new) (O.faults output.old) (O.faults output.new)) result }

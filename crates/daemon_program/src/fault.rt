@@ -13,6 +13,8 @@ use std::{fmt, str};
 pub(crate) enum Form {
     /// The path of a root.
     Root,
+    /// The path of a file.
+    File,
     /// A door.
     Door,
     /// The number of a user.
@@ -98,6 +100,27 @@ const REPLAY: [Part; 2] = [
     ENTRIES,
 ];
 
+const SEGMENTS: [Part; 3] = [
+    Part {
+        option: "--root",
+        value: "DIR",
+        form: Form::Root,
+        times: Times::Perhaps,
+    },
+    Part {
+        option: "--segments",
+        value: "PATH",
+        form: Form::File,
+        times: Times::Once,
+    },
+    Part {
+        option: "--per",
+        value: "K",
+        form: Form::UpTo(1_048_576),
+        times: Times::Once,
+    },
+];
+
 const PIPE: [Part; 3] = [
     Part {
         option: "",
@@ -157,6 +180,7 @@ impl Form {
     fn is_of(self, value: &Text) -> bool {
         match self {
             Form::Root => is_root(value),
+            Form::File => !value.bytes().is_empty(),
             Form::Door => is_door(value.bytes()),
             Form::User => number(value.bytes()).is_some(),
             Form::UpTo(greatest) => positive(value.bytes(), greatest).is_some(),
@@ -240,12 +264,20 @@ fn fault_in<'a>(parts: &[Part], words: &'a [Text]) -> Option<WordsFault<'a>> {
     }
 }
 
+/// Whether words ask for a journal in segments.
+fn is_in_segments(words: &[Text]) -> bool {
+    words
+        .iter()
+        .any(|word| word.bytes() == b"--segments".as_slice())
+}
+
 /// What is wrong with words that name no command.
 pub(crate) fn words_fault<'a>(words: &'a [Text]) -> Option<WordsFault<'a>> {
     let [first, rest @ ..] = words else {
         return Some(WordsFault::NoCommand);
     };
     match shown(first) {
+        "replay" if is_in_segments(rest) => fault_in(&SEGMENTS, rest),
         "replay" | "audit" => fault_in(&REPLAY, rest),
         "pipe" => fault_in(&PIPE, rest),
         "load" => fault_in(&LOAD, rest),
@@ -259,6 +291,7 @@ impl fmt::Display for Form {
     fn fmt<W: fmt::Write>(&self, f: &mut fmt::Formatter<W>) -> fmt::Result {
         match self {
             Form::Root => write!(f, "a path without '/' at its end"),
+            Form::File => write!(f, "a path"),
             Form::Door => write!(f, "a number of 32 bits, ':' and a path"),
             Form::User => write!(f, "a number of 32 bits"),
             Form::UpTo(greatest) => write!(f, "a number from 1 to {greatest}"),

@@ -5,6 +5,7 @@
 #![tactic(auto)]
 
 ghost use Rattle.connection_serve.specs.Promises.{MayServe};
+ghost use Rattle.pk_outside.specs.Allowing.{IsFree};
 
 mod fault;
 
@@ -23,6 +24,7 @@ use std::thread::Threads;
 /// What the program tells of itself.
 const TEXTS: ProgramTexts = ProgramTexts {
     help: "usage: polkitd replay [--root DIR] [--entries K]
+       polkitd replay [--root DIR] --segments PATH --per K
        polkitd audit [--root DIR] [--entries K]
        polkitd pipe UID --root DIR [--entries K]
        polkitd serve --root DIR --door UID:PATH {--door UID:PATH} --slots N [--stop-after K]
@@ -33,6 +35,8 @@ replay  runs the scenario on standard input, and writes its answers to standard 
         --root DIR   begins with the action files, rules, administrators, users, groups, sessions
                      and processes below DIR, and first writes a line for each that it skips
         --entries K  the journal holds at most K entries, 1 to 1048576
+        --segments PATH --per K  the journal is not kept: each K entries of it, 1 to 1048576, are
+                     written to a new file at PATH, and forgotten
 audit   runs the scenario as replay does, and writes to standard output at its end the whole journal
         as an audit text, in place of all answers
 pipe    serves one connection of the user UID: D-Bus messages on standard input, and the messages
@@ -53,8 +57,8 @@ Options, each alone:
 
 Exit status: 0 done, 1 usage, 2 the files below DIR cannot be read or are refused, 3 read fault,
 4 write fault, 5 the journal is full or all numbers of connections are used up, 6 a line or a
-message that is not in its grammar, 7 a socket could not be made or failed, 70 out of memory, 71 the
-system gives no random words. Any but 0 is told on standard error.
+message that is not in its grammar, 7 a socket could not be made or failed, 8 the file of the
+segments could not be made or failed, 70 out of memory, 71 the system gives no random words. Any but 0 is told on standard error.
 ",
     version: "polkitd 0.105.0 (proved 0.2.0)\n",
 };
@@ -89,6 +93,7 @@ where
     T: Tree,
     N: Station,
     requires may_serve { MayServe N.Door.Link.Out.allowed }
+    requires free_file { IsFree N.File.allowed }
 {
     let words = match words(rt) {
         Ok(words) => words,
@@ -127,6 +132,7 @@ where
     T: Tree,
     N: Station,
     requires may_serve { MayServe N.Door.Link.Out.allowed }
+    requires free_file { IsFree N.File.allowed }
 {
     let status = command(rt, tree, station);
     match status {

@@ -13,3 +13,4 @@ pub mod Turns
 pub mod Departing
 pub mod Serving
 pub mod Starting
+pub mod Promised

@@ -2,6 +2,8 @@
 use Rattle.std.proofs.Common.{◌≡◌, ◌+◌, ◌≤◌, ◌++◌, ℕ, List, Option, take, drop, length, ◌∙◌, ap, subst, drop-drop, length-drop, arith}
 use Rattle.std.proofs.lemmas.List.{drop-append-le}
 use Rattle.pk_outside.specs.Streams.{Got, GotUpTo}
+use Rattle.pk_outside.specs.Allowing.{MayGo}
+use Rattle.pk_outside.proofs.Going.{MayGo-rest}
 use Rattle.pk_outside.proofs.Written.{GotUpTo-more}
 
 -- more of the rest was written
@@ -19,3 +21,8 @@ still_within items rest start n is within few =
 pub put_behind : (before now message view : List ℕ) (start : ℕ) → drop start before ≡ view → start ≤ length before → now ≡ before ++ message → drop start now ≡ view ++ message
 put_behind before now message view start is within put =
     ap (drop start) put ∙ drop-append-le start before message within ∙ ap (λ (l : List ℕ). l ++ message) is
+
+-- what is left may still be written
+pub went_on : (Allowed : List ℕ → Type 0) (b c : Option (List ℕ)) (items rest : List ℕ) (start n : ℕ) → rest ≡ drop start items → MayGo Allowed b (drop start items) → Got b c (take n rest) → MayGo Allowed c (drop (start + n) items)
+went_on Allowed b c items rest start n is may wrote =
+    subst (λ (r : List ℕ). MayGo Allowed c r) (drop-drop n start items) (MayGo-rest Allowed b c (drop start items) n may (subst (λ (r : List ℕ). Got b c (take n r)) is wrote))

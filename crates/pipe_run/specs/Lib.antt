@@ -3,6 +3,7 @@ pub mod Bytes
 pub mod Ends
 pub mod Faults
 pub mod Handed
+pub mod Promises
 pub mod Stages
 pub mod Stops
 pub mod Supplies

@@ -1,6 +1,6 @@
 // What the connection is sent and was not written yet.
 ghost use Rattle.std.specs.Prelude.{◌≡◌, ◌<◌, ◌++◌, [], false, OnOk, OnErr};
-ghost use Rattle.pk_outside.specs.Allowing.{IsFree};
+ghost use Rattle.pk_outside.specs.Allowing.{MayGo};
 ghost use Rattle.pk_outside.specs.Causes.{HasCause, FailsLast};
 ghost use Rattle.pk_outside.specs.Streams.{GotUpTo};
 ghost use Rattle.authority_laws.specs.Batches.{IsSendable};
@@ -78,9 +78,8 @@ impl Outbox {
     }
 
     /// Writes all that is in it. Where a write fails, what was not written stays.
-    #[tactic(auto, using(pk_outside::proofs::Going::may_go_free))]
     pub fn write_out<O: Sink>(&mut self, output: &mut O) -> Result<(), Failed>
-        requires free { IsFree O.allowed }
+        requires may { MayGo O.allowed (O.held output.old) self.old }
         ensures written { GotUpTo (O.held output.old) (O.held output.new) self.old self.new }
         ensures all { OnOk result (self.new ≡ []) }
         ensures quiet { OnOk result (O.faults output.new ≡ O.faults output.old) }

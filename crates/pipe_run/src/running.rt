@@ -1,11 +1,11 @@
 // The run of a connection over a source and a sink.
 ghost use Rattle.std.specs.Prelude.{◌≡◌, ◌≤◌, [], true, IfOk, length};
-ghost use Rattle.pk_outside.specs.Allowing.{IsFree};
 ghost use Rattle.authority_model.specs.Entering.{AreAllowed};
 ghost use Rattle.authority_model.specs.Items.{sent};
 ghost use Rattle.pipe_run.specs.Ends.{Pipes, traffic};
 ghost use Rattle.pipe_run.specs.Faults.{InputFaults, OutputFaults, ReadsNothing};
 ghost use Rattle.pipe_run.specs.Handed.{awaits_message};
+ghost use Rattle.pipe_run.specs.Promises.{MayGoOn, MayPipe};
 ghost use Rattle.pipe_run.specs.Supplies.{supply};
 ghost use Rattle.pipe_run.specs.Stages.{EndsInput, Serves, standing};
 
@@ -31,7 +31,7 @@ fn end_of_input<C: Clock, S: Salt, O: Sink>(
     requires counted { served.old.sent ≡ sent served.old.past CONNECTION }
     requires waits { awaits_message served.old.past ≡ true }
     requires written { served.old.unsent ≡ [] }
-    requires free { IsFree O.allowed }
+    requires may { MayGoOn O.allowed (O.held output.old) served.old }
     ensures run { EndsInput (standing served.old 0 (supply (C.left clock.old) (C.gave clock.old)) (supply (S.left salt.old) (S.gave salt.old)) (O.held output.old)) (standing served.new 0 (supply (C.left clock.new) (C.gave clock.new)) (supply (S.left salt.new) (S.gave salt.new)) (O.held output.new)) rest result }
     ensures unread { ReadsNothing result }
     ensures write { OutputFaults O.held O.faults output.old output.new result }
@@ -61,7 +61,7 @@ fn serve<T: Tree, C: Clock, S: Salt, I: Source, O: Sink>(
 ) -> PipeEnd
     requires counted { served.old.sent ≡ sent served.old.past CONNECTION }
     requires waits { awaits_message served.old.past ≡ true }
-    requires free { IsFree O.allowed }
+    requires may { MayGoOn O.allowed (O.held output.old) served.old }
     ensures run { Serves (T.told tree.old) root.now (standing served.old (T.faults tree.old) (supply (C.left clock.old) (C.gave clock.old)) (supply (S.left salt.old) (S.gave salt.old)) (O.held output.old)) (standing served.new (T.faults tree.new) (supply (C.left clock.new) (C.gave clock.new)) (supply (S.left salt.new) (S.gave salt.new)) (O.held output.new)) (I.left input.old) (I.left input.new) (I.ended input.new) result }
     ensures read { InputFaults I.left I.faults input.old input.new result }
     ensures write { OutputFaults O.held O.faults output.old output.new result }
@@ -138,7 +138,8 @@ pub fn run_pipe<T: Tree, C: Clock, S: Salt, I: Source, O: Sink>(
     output: &mut O,
 ) -> PipeEnd
     requires limits { AreAllowed limits }
-    requires free { IsFree O.allowed }
+    // Each prefix of what the connection is sent in some legal history may be written.
+    requires may { MayPipe O.allowed (O.held output.old) }
 
     // What is written is the messages that the connection is sent in the legal history that the bytes
     // read make, as far as the end says.

@@ -1,6 +1,6 @@
 // The authority of one connection, and what it was sent.
 ghost use Rattle.std.specs.Prelude.{◌≡◌, ◌++◌, [], IfOk, OnOk};
-ghost use Rattle.pk_outside.specs.Allowing.{IsFree};
+ghost use Rattle.pk_outside.specs.Allowing.{MayGo};
 ghost use Rattle.authority_model.specs.Entering.{AreAllowed};
 ghost use Rattle.authority_model.specs.Given.{event_given, load_given};
 ghost use Rattle.authority_model.specs.Items.{sent};
@@ -186,7 +186,7 @@ impl Served {
 
     /// Writes all that the connection was sent.
     pub fn write_out<O: Sink>(&mut self, output: &mut O) -> Result<(), Stopped>
-        requires free { IsFree O.allowed }
+        requires may { MayGo O.allowed (O.held output.old) self.old.unsent }
         ensures written { IsWrittenOut self.old (O.held output.old) self.new (O.held output.new) }
         ensures all { OnOk result (self.new.unsent ≡ []) }
         ensures faults { WriteFaults O.held O.faults output.old output.new result }
@@ -199,7 +199,7 @@ impl Served {
     /// Writes all that the connection was sent, where it has become much, and where the journal is
     /// full: what is handed in next is refused then, and ends the run.
     pub fn make_room<O: Sink>(&mut self, output: &mut O) -> Result<(), Stopped>
-        requires free { IsFree O.allowed }
+        requires may { MayGo O.allowed (O.held output.old) self.old.unsent }
         ensures written { IsWrittenOut self.old (O.held output.old) self.new (O.held output.new) }
         ensures ready { OnOk result (IsReady self.new) }
         ensures faults { WriteFaults O.held O.faults output.old output.new result }

@@ -1,12 +1,12 @@
 // What is handed in: the beginning, what each message asks, the loads that are asked for, and the end.
 ghost use Rattle.std.specs.Prelude.{◌≡◌, ◌≤◌, ◌^◌, ◌∷◌, [], true, OnOk};
-ghost use Rattle.pk_outside.specs.Allowing.{IsFree};
 ghost use Rattle.authority_model.specs.Items.{sent};
 ghost use Rattle.authority_model.specs.Legal.{Legal};
 ghost use Rattle.authority_calls.specs.Events.{event_of};
 ghost use Rattle.authority_model.specs.Given.{IsStepped};
 ghost use Rattle.dbus_values.specs.Next.{Seen};
 ghost use Rattle.pipe_run.specs.Answered.{IsSubmittable, WriteFaults, given_of};
+ghost use Rattle.pipe_run.specs.Promises.{MayGoOn};
 ghost use Rattle.pipe_run.specs.Handed.{awaits_load, awaits_message, loading_given};
 ghost use Rattle.pipe_run.specs.Supplies.{Supply, supply};
 ghost use Rattle.pipe_run.specs.Stages.{IsDeparting, Opens, Turns, standing};
@@ -29,10 +29,11 @@ pub fn open<C: Clock, S: Salt, O: Sink>(
 ) -> Result<(), Stopped>
     requires counted { served.old.sent ≡ sent served.old.past CONNECTION }
     requires first { served.old.past ≡ [] }
-    requires free { IsFree O.allowed }
+    requires may { MayGoOn O.allowed (O.held output.old) served.old }
     ensures opened { Opens uid first (standing served.old 0 (supply (C.left clock.old) (C.gave clock.old)) (supply (S.left salt.old) (S.gave salt.old)) (O.held output.old)) (standing served.new 0 (supply (C.left clock.new) (C.gave clock.new)) (supply (S.left salt.new) (S.gave salt.new)) (O.held output.new)) result }
     ensures counted { OnOk result (served.new.sent ≡ sent served.new.past CONNECTION) }
     ensures waits { OnOk result (awaits_message served.new.past ≡ true) }
+    ensures may { OnOk result (MayGoOn O.allowed (O.held output.new) served.new) }
     ensures faults { WriteFaults O.held O.faults output.old output.new result }
 {
     served.make_room(output)?;
@@ -81,10 +82,11 @@ fn load_again<T: Tree, C: Clock, O: Sink>(
 ) -> Result<(), Stopped>
     requires counted { served.old.sent ≡ sent served.old.past CONNECTION }
     requires asked { awaits_load served.old.past ≡ true }
-    requires free { IsFree O.allowed }
+    requires may { MayGoOn O.allowed (O.held output.old) served.old }
     ensures turned { (salt : Supply) → Turns (T.told tree.old) root.now (standing served.old (T.faults tree.old) (supply (C.left clock.old) (C.gave clock.old)) salt (O.held output.old)) (standing served.new (T.faults tree.new) (supply (C.left clock.new) (C.gave clock.new)) salt (O.held output.new)) [] result }
     ensures counted { OnOk result (served.new.sent ≡ sent served.new.past CONNECTION) }
     ensures waits { OnOk result (awaits_message served.new.past ≡ true) }
+    ensures may { OnOk result (MayGoOn O.allowed (O.held output.new) served.new) }
     ensures same { T.told tree.new ≡ T.told tree.old }
     ensures faults { WriteFaults O.held O.faults output.old output.new result }
 {
@@ -107,10 +109,11 @@ pub fn take_message<T: Tree, C: Clock, S: Salt, O: Sink>(
     requires counted { served.old.sent ≡ sent served.old.past CONNECTION }
     requires waits { awaits_message served.old.past ≡ true }
     requires stepped { IsStepped event }
-    requires free { IsFree O.allowed }
+    requires may { MayGoOn O.allowed (O.held output.old) served.old }
     ensures turned { (message : Seen) → event ≡ event_of message → Turns (T.told tree.old) root.now (standing served.old (T.faults tree.old) (supply (C.left clock.old) (C.gave clock.old)) (supply (S.left salt.old) (S.gave salt.old)) (O.held output.old)) (standing served.new (T.faults tree.new) (supply (C.left clock.new) (C.gave clock.new)) (supply (S.left salt.new) (S.gave salt.new)) (O.held output.new)) (message ∷ []) result }
     ensures counted { OnOk result (served.new.sent ≡ sent served.new.past CONNECTION) }
     ensures waits { OnOk result (awaits_message served.new.past ≡ true) }
+    ensures may { OnOk result (MayGoOn O.allowed (O.held output.new) served.new) }
     ensures same { T.told tree.new ≡ T.told tree.old }
     ensures faults { WriteFaults O.held O.faults output.old output.new result }
 {

@@ -7,7 +7,8 @@ use Rattle.polkit_daemon.specs.declared.status.Status.{Status}
 use Rattle.polkit_daemon.specs.declared.status.Status.TheVariants as status
 use Rattle.polkit_daemon.specs.Faults.{InputFaults, OutputFaults}
 use Rattle.polkit_daemon.specs.Generate.{Generates}
-use Rattle.polkit_daemon.specs.Replayed.{status_of}
+use Rattle.replay_segments.specs.Ends as segments
+use Rattle.polkit_daemon.specs.Replayed.{StationFaults, status_of}
 
 -- a generated run reads nothing
 pub generates_reads : {S : Type 0} (left : S → Option (List ℕ)) (faults : S → ℕ) (input : S) (checks : ℕ) (held held' : Option (List ℕ)) (s : Status)
@@ -24,6 +25,7 @@ replay_reads left faults before now (end.LoadRefused why) reads = reads
 replay_reads left faults before now end.ReadFault reads = reads
 replay_reads left faults before now end.WriteFault reads = reads
 replay_reads left faults before now (end.JournalFull entries bytes) reads = reads
+replay_reads left faults before now end.SegmentFault reads = reads
 replay_reads left faults before now (end.BadLine line why) reads = reads
 replay_reads left faults before now end.NoMemory reads = reads
 
@@ -36,5 +38,18 @@ replay_writes held faults before now (end.LoadRefused why) writes = writes
 replay_writes held faults before now end.ReadFault writes = writes
 replay_writes held faults before now end.WriteFault writes = writes
 replay_writes held faults before now (end.JournalFull entries bytes) writes = writes
+replay_writes held faults before now end.SegmentFault writes = writes
 replay_writes held faults before now (end.BadLine line why) writes = writes
 replay_writes held faults before now end.NoMemory writes = writes
+
+-- the status of a replay says of the station what its end says
+pub replay_counts : (before now : ℕ) (stop : ReplayEnd) → segments.StationFaults before now stop → StationFaults before now (status_of stop)
+replay_counts before now end.Done counts = counts
+replay_counts before now (end.TreeFault count) counts = counts
+replay_counts before now (end.LoadRefused why) counts = counts
+replay_counts before now end.ReadFault counts = counts
+replay_counts before now end.WriteFault counts = counts
+replay_counts before now (end.JournalFull entries bytes) counts = counts
+replay_counts before now end.SegmentFault counts = counts
+replay_counts before now (end.BadLine line why) counts = counts
+replay_counts before now end.NoMemory counts = counts

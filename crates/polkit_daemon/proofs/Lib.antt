@@ -1,3 +1,4 @@
 pub mod Faults
 pub mod Loading
 pub mod Services
+pub mod Promised

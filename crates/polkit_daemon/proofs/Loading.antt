@@ -19,6 +19,15 @@ checks_of _ = 0
 pub same_checks : (named : Option Named) (a b : ℕ) → named ≡ Some (Named.Load a) → named ≡ Some (Named.Load b) → a ≡ b
 same_checks named a b is_a is_b = ap checks_of (sym is_a ∙ is_b)
 
+-- What a replay in segments is made from: its root, the path of its file, and how many entries a segment has.
+pub record Segments : Type 0 where
+  pub root : Option (List ℕ)
+  pub path : List ℕ
+  pub per : ℕ
+
+abbrev pub in_segments : Option (List ℕ) → List ℕ → ℕ → Segments
+in_segments root path per = record { root = root; path = path; per = per }
+
 abbrev beginning_of : Option Named → Beginning
 beginning_of (Some (Named.Replay root entries)) = beginning root entries
 beginning_of (Some (Named.Audit root entries)) = beginning root entries
@@ -27,6 +36,14 @@ beginning_of _ = beginning None 0
 -- a replay has one root and one limit of entries
 pub same_replay : (named : Option Named) (r s : Option (List ℕ)) (a b : ℕ) → named ≡ Some (Named.Replay r a) → named ≡ Some (Named.Replay s b) → beginning r a ≡ beginning s b
 same_replay named r s a b is_a is_b = ap beginning_of (sym is_a ∙ is_b)
+
+abbrev segments_of : Option Named → Segments
+segments_of (Some (Named.Segments root path per)) = in_segments root path per
+segments_of _ = in_segments None [] 0
+
+-- a replay in segments has one root, one path and one number of entries
+pub same_segments : (named : Option Named) (r s : Option (List ℕ)) (p q : List ℕ) (a b : ℕ) → named ≡ Some (Named.Segments r p a) → named ≡ Some (Named.Segments s q b) → in_segments r p a ≡ in_segments s q b
+same_segments named r s p q a b is_a is_b = ap segments_of (sym is_a ∙ is_b)
 
 -- and so has an audit
 pub same_audit : (named : Option Named) (r s : Option (List ℕ)) (a b : ℕ) → named ≡ Some (Named.Audit r a) → named ≡ Some (Named.Audit s b) → beginning r a ≡ beginning s b

@@ -17,4 +17,5 @@ code_of (status.BadLine line _) = 6
 code_of (status.BadBytes _ at) = 6
 code_of (status.Truncated rest) = 6
 code_of status.DoorFault = 7
+code_of status.SegmentFault = 8
 code_of status.NoMemory = 70

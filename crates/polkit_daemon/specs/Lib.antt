@@ -5,3 +5,4 @@ pub mod Generate
 pub mod Piped
 pub mod Replayed
 pub mod Served
+pub mod Promises

@@ -1,5 +1,6 @@
 -- A scenario from a root: how the end of its replay, or of its audit, ends the command.
-use Rattle.std.specs.Prelude.{◌≡◌, ℕ, Bool, List, Option}
+use Rattle.std.specs.Prelude.{◌≡◌, ◌≤◌, ℕ, Bool, List, Option}
+use Rattle.pk_outside.specs.Causes.{Rose}
 use Rattle.pk_outside.specs.Trees.{TreeTold}
 use Rattle.authority_model.specs.declared.journal.Limits.{Limits}
 use Rattle.policy_load.specs.declared.refused.LoadRefused.{LoadRefused}
@@ -8,6 +9,9 @@ use Rattle.replay_run.specs.declared.ends.ReplayEnd.{ReplayEnd}
 use Rattle.replay_run.specs.declared.ends.ReplayEnd.TheVariants as end
 use Rattle.replay_run.specs.Audited as audited
 use Rattle.replay_run.specs.Rooted as rooted
+use Rattle.replay_segments.specs.Ends as segments
+use Rattle.pk_outside.specs.Stations.{StationTold}
+use Rattle.scenario_run.specs.Room.{whole}
 use Rattle.polkit_daemon.specs.declared.status.Status.{Status}
 use Rattle.polkit_daemon.specs.declared.status.Status.TheVariants as status
 
@@ -25,6 +29,7 @@ status_of (end.LoadRefused refused) = status.LoadRefused refused
 status_of end.ReadFault = status.ReadFault
 status_of end.WriteFault = status.WriteFault
 status_of (end.JournalFull entries bytes) = status.JournalFull entries bytes
+status_of end.SegmentFault = status.SegmentFault
 status_of (end.BadLine line kind) = status.BadLine line kind
 status_of end.NoMemory = status.NoMemory
 
@@ -37,9 +42,19 @@ pub record EndsSo (Ends : ReplayEnd → Type 0) (s : Status) : Type 0 where
 -- A replay from a root, by its status. The faults are those that the tree counted, before and after.
 abbrev pub ReplaysFrom : Option TreeTold → Option (List ℕ) → Limits → ℕ → ℕ → Option (List ℕ) → Option (List ℕ) → Bool → Option (List ℕ) → Option (List ℕ) → Status → Type 0
 ReplaysFrom told root limits before now left_before left ended held_before held =
-    EndsSo (rooted.ReplaysFrom told root limits before now left_before left ended held_before held)
+    EndsSo (rooted.ReplaysFrom told root (whole limits) before now left_before left ended held_before held)
 
 -- an audit from a root, by its status
 abbrev pub AuditsFrom : Option TreeTold → Option (List ℕ) → Limits → ℕ → ℕ → Option (List ℕ) → Option (List ℕ) → Bool → Option (List ℕ) → Option (List ℕ) → Status → Type 0
 AuditsFrom told root limits before now left_before left ended held_before held =
     EndsSo (audited.AuditsFrom told root limits before now left_before left ended held_before held)
+
+-- a replay over a journal in segments from a root, by its status
+abbrev pub ReplaysInSegments : Option TreeTold → Option (List ℕ) → ℕ → ℕ → List ℕ → ℕ → Option (List ℕ) → Option (List ℕ) → Bool → Option (List ℕ) → Option (List ℕ) → Option StationTold → Option StationTold → Status → Type 0
+ReplaysInSegments told root faults_before faults_now path per left_before left ended held_before held before now =
+    EndsSo (segments.ReplaysInSegments told root faults_before faults_now path per left_before left ended held_before held before now)
+
+-- a segment fault is told only where the station's count rose
+abbrev pub StationFaults : ℕ → ℕ → Status → Type 0
+StationFaults before now status.SegmentFault = Rose before now
+StationFaults before now other = before ≤ now

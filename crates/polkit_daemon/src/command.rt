@@ -1,10 +1,12 @@
 // The command line of the daemon.
 ghost use Rattle.authority_model.specs.declared.journal.TheConstants.{MAX_ENTRIES};
+ghost use Rattle.replay_segments.specs.declared.running.TheConstants.{MAX_PER};
 ghost use Rattle.std.specs.Prelude.{◌≡◌, ◌≤◌, IfSome};
 ghost use Rattle.std.specs.Option.{option_copied, option_map};
-ghost use Rattle.polkit_daemon.specs.Commands.{audit_in, beginning_in, beginning_seen, command_of, command_seen, load_in, pipe_in, replay_in, serve_in, IsInRange};
+ghost use Rattle.polkit_daemon.specs.Commands.{audit_in, beginning_in, beginning_seen, command_of, command_seen, load_in, pipe_in, any_replay_in, replay_in, segments_from, segments_in, serve_in, IsInRange};
 
 use pk_types::{Text, number};
+use replay_segments::MAX_PER;
 use serve_words::{entries_in, is_plan, is_root, positive};
 
 /// The greatest number of checks of a generated run.
@@ -19,6 +21,13 @@ pub enum Command<'a> {
     Replay {
         root: Option<&'a Text>,
         entries: u64,
+    },
+    /// `replay [--root DIR] --segments PATH --per K`: runs the scenario on the input as `replay` does, over
+    /// a journal whose segments of so many entries, from 1 to 1,048,576, are written to a file at this path.
+    Segments {
+        root: Option<&'a Text>,
+        path: &'a Text,
+        per: u64,
     },
     /// `audit [--root DIR] [--entries K]`: runs the scenario on the input as `replay` does, and writes
     /// the audit text of its journal.
@@ -87,6 +96,50 @@ fn replay_in(words: &[Text]) -> Option<Command<'_>>
     Some(Command::Replay { root, entries })
 }
 
+/// The replay in segments that the words behind its root name, `--segments PATH --per K`.
+fn segments_from<'a>(root: Option<&'a Text>, words: &'a [Text]) -> Option<Command<'a>>
+    ensures command { option_map command_seen result ≡ segments_from (option_copied root.entry) words.now }
+    ensures range { IfSome result IsInRange }
+{
+    match words {
+        [option, path, count, per]
+            if option.bytes() == b"--segments".as_slice()
+                && !path.bytes().is_empty()
+                && count.bytes() == b"--per".as_slice() => {
+            let per = positive(per.bytes(), MAX_PER)?;
+            Some(Command::Segments { root, path, per })
+        }
+        _ => None,
+    }
+}
+
+/// The replay in segments that the words after `replay` name.
+fn segments_in(words: &[Text]) -> Option<Command<'_>>
+    ensures command { option_map command_seen result ≡ segments_in words.now }
+    ensures range { IfSome result IsInRange }
+{
+    match words {
+        [option, root, rest @ ..] if option.bytes() == b"--root".as_slice() => {
+            if !is_root(root) {
+                return None;
+            }
+            segments_from(Some(root), rest)
+        }
+        _ => segments_from(None, words),
+    }
+}
+
+/// The replay that the words after `replay` name, of either kind.
+fn any_replay_in(words: &[Text]) -> Option<Command<'_>>
+    ensures command { option_map command_seen result ≡ any_replay_in words.now }
+    ensures range { IfSome result IsInRange }
+{
+    match replay_in(words) {
+        Some(command) => Some(command),
+        None => segments_in(words),
+    }
+}
+
 /// The audit that the words after `audit` name.
 fn audit_in(words: &[Text]) -> Option<Command<'_>>
     ensures command { option_map command_seen result ≡ audit_in words.now }
@@ -150,7 +203,7 @@ impl Command<'_> {
     {
         let (word, rest) = words.split_first()?;
         if word.bytes() == b"replay".as_slice() {
-            return replay_in(rest);
+            return any_replay_in(rest);
         }
         if word.bytes() == b"audit".as_slice() {
             return audit_in(rest);

@@ -1,6 +1,6 @@
 // The command that runs generated checks.
 ghost use Rattle.std.specs.Prelude.{◌≡◌, ◌≤◌, IfErr, IfOk, OnOk};
-ghost use Rattle.pk_outside.specs.Allowing.{IsFree};
+ghost use Rattle.pk_outside.specs.Allowing.{MayFronts};
 ghost use Rattle.authority_model.specs.Legal.{Legal};
 ghost use Rattle.authority_model.specs.Licensed.{AllLicensed};
 ghost use Rattle.generated_run.specs.Run.{generated};
@@ -34,10 +34,10 @@ fn generated_line(alloc: Global, checks: u32) -> Result<ByteList, RunRefused>
 /// a further one is due, and then nothing was written; `WriteFault` exactly where the output
 /// counted a fault, which its last write did; `NoMemory`, which may come in place of any other
 /// answer.
-#[tactic(auto, using(pk_outside::proofs::Going::may_go_free))]
 pub fn load_run<O: Sink>(alloc: Global, checks: u32, output: &mut O) -> Status
     requires checks { (1 ≤ checks) × (checks ≤ 100000) }
-    requires free { IsFree O.allowed }
+    // Each prefix of the line may be written.
+    requires may { MayFronts O.allowed (O.held output.old) (generated_line checks) }
 
     // What is written is the line of the generated run, as far as the status says.
     ensures run { Generates checks (O.held output.old) (O.held output.new) result }

@@ -14,7 +14,7 @@ pub use dbus_values::FaultKind;
 pub use generating::load_run;
 pub use piping::pipe;
 pub use policy_load::{LoadLimit, LoadRefused};
-pub use replaying::{audit, replay};
+pub use replaying::{audit, replay, replay_segments};
 pub use scenario_text::LineKind;
 pub use serving::serve;
 pub use status::Status;

@@ -1,8 +1,8 @@
 // The command that serves one connection over the input and the output.
 ghost use Rattle.std.specs.Prelude.{◌≡◌};
-ghost use Rattle.pk_outside.specs.Allowing.{IsFree};
 ghost use Rattle.authority_model.specs.Entering.{AreAllowed};
 ghost use Rattle.pipe_run.specs.Ends.{traffic};
+ghost use Rattle.pipe_run.specs.Promises.{MayPipe};
 ghost use Rattle.pipe_run.specs.Supplies.{supply};
 ghost use Rattle.polkit_daemon.specs.Faults.{InputFaults, OutputFaults};
 ghost use Rattle.polkit_daemon.specs.Piped.{PipesFrom, status_of};
@@ -59,7 +59,8 @@ pub fn pipe<T: Tree, C: Clock, S: Salt, I: Source, O: Sink>(
     output: &mut O,
 ) -> Status
     requires limits { AreAllowed limits }
-    requires free { IsFree O.allowed }
+    // Each prefix of what the connection is sent in some legal history may be written.
+    requires may { MayPipe O.allowed (O.held output.old) }
 
     // What is written is the messages that the connection is sent in the legal history that the bytes
     // read make, as far as the status says.

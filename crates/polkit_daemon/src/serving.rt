@@ -1,10 +1,11 @@
 // The command that serves the connections that come in at doors.
 ghost use Rattle.std.specs.Prelude.{◌≡◌, is_some, true};
-ghost use Rattle.pk_outside.specs.Allowing.{IsFree};
 ghost use Rattle.connection_serve.specs.Promises.{MayServe};
 ghost use Rattle.serve_words.specs.declared.plan.ServePlan.{ServePlan};
 ghost use Rattle.serve_words.specs.Plans.{IsAllowed, plan_in};
+ghost use Rattle.authority_service.specs.Promises.{MayPrint};
 ghost use Rattle.authority_service.specs.Service.{outside};
+ghost use Rattle.polkit_daemon.specs.Promises.{MayPrintNamed};
 ghost use Rattle.polkit_daemon.specs.Served.{IsServed, IsServedOrUntouched, IsServiceStatus};
 
 use crate::status::Status;
@@ -40,7 +41,9 @@ pub fn serve<R: Threads + Wait + Sync, T: Tree, N: Station, O: Sink>(
     output: &mut O,
 ) -> Status
     requires allowed { IsAllowed plan.now }
-    requires free { IsFree O.allowed }
+    // Each prefix may be written of what is printed of the first load and of some legal journal.
+    requires may { MayPrint O.allowed (O.held output.old) plan.now (T.told tree.old) }
+    // Each prefix of a talk with a connection may be written to its link.
     requires may_serve { MayServe N.Door.Link.Out.allowed }
 
     // The journal that was closed, the doors that came back, what was written and what was counted,
@@ -61,7 +64,7 @@ pub fn serve_named<R: Threads + Wait + Sync, T: Tree, N: Station, O: Sink>(
     output: &mut O,
 ) -> Status
     requires plan { is_some (plan_in words.now) ≡ true }
-    requires free { IsFree O.allowed }
+    requires may { MayPrintNamed O.allowed (O.held output.old) (T.told tree.old) words.now }
     requires may_serve { MayServe N.Door.Link.Out.allowed }
     ensures run { (plan : ServePlan) → plan_in words.now ≡ Some plan →
         IsServedOrUntouched plan (outside (T.told tree.old) (T.faults tree.old) (T.faults tree.new) (N.told station.old) (N.told station.new)

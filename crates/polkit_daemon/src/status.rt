@@ -40,6 +40,8 @@ pub enum Status {
     Truncated { rest: u64 },
     /// A listening socket could not be made or shut.
     DoorFault,
+    /// The file of the segments could not be made, or failed.
+    SegmentFault,
     /// Memory was refused.
     NoMemory,
 }
@@ -67,6 +69,7 @@ impl Status {
             ReplayEnd::ReadFault => Status::ReadFault,
             ReplayEnd::WriteFault => Status::WriteFault,
             ReplayEnd::JournalFull { entries, bytes } => Status::JournalFull { entries, bytes },
+            ReplayEnd::SegmentFault => Status::SegmentFault,
             ReplayEnd::BadLine { line, kind } => Status::BadLine { line, kind },
             ReplayEnd::NoMemory => Status::NoMemory,
         }
@@ -101,6 +104,7 @@ impl Status {
             Status::JournalFull { .. } | Status::Admissions { .. } => 5,
             Status::BadLine { .. } | Status::BadBytes { .. } | Status::Truncated { .. } => 6,
             Status::DoorFault => 7,
+            Status::SegmentFault => 8,
             Status::NoMemory => 70,
         }
     }
@@ -121,6 +125,7 @@ impl fmt::Display for Status {
             Status::BadBytes { kind, at } => write!(f, "BadBytes {kind:?} {at}"),
             Status::Truncated { rest } => write!(f, "Truncated {rest}"),
             Status::DoorFault => write!(f, "DoorFault"),
+            Status::SegmentFault => write!(f, "SegmentFault"),
             Status::NoMemory => write!(f, "NoMemory"),
         }
     }

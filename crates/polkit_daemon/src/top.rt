@@ -2,11 +2,12 @@
 ghost use Rattle.std.specs.Prelude.{◌≡◌, ◌↔◌, None, Some, Option, List, ℕ};
 ghost use Rattle.pk_outside.specs.Allowing.{IsFree};
 ghost use Rattle.connection_serve.specs.Promises.{MayServe};
-ghost use Rattle.polkit_daemon.specs.Commands.{AsksNoStation, AsksNoTree, IsNoService, Named, command_of, limits_of};
+ghost use Rattle.polkit_daemon.specs.Commands.{AsksNoStation, AsksNoTree, CountsNoStation, IsNoService, Named, command_of, limits_of};
 ghost use Rattle.polkit_daemon.specs.Faults.{InputFaults, OutputFaults};
 ghost use Rattle.polkit_daemon.specs.Generate.{Generates};
 ghost use Rattle.polkit_daemon.specs.Piped.{PipesMade};
-ghost use Rattle.polkit_daemon.specs.Replayed.{AuditsFrom, ReplaysFrom};
+ghost use Rattle.polkit_daemon.specs.Promises.{MayRun};
+ghost use Rattle.polkit_daemon.specs.Replayed.{AuditsFrom, ReplaysFrom, ReplaysInSegments, StationFaults};
 ghost use Rattle.authority_service.specs.Service.{outside};
 ghost use Rattle.polkit_daemon.specs.Served.{IsServedOrUntouched};
 ghost use Rattle.serve_words.specs.declared.plan.ServePlan.{ServePlan};
@@ -15,7 +16,7 @@ ghost use Rattle.serve_words.specs.Plans.{plan_in};
 use crate::command::Command;
 use crate::generating::load_run;
 use crate::piping::pipe;
-use crate::replaying::{audit, replay};
+use crate::replaying::{audit, replay, replay_segments};
 use crate::serving::serve_named;
 use crate::status::Status;
 use authority_model::{Limits, MAX_BYTES};
@@ -49,7 +50,10 @@ pub fn polkitd<R: Threads + Wait + Sync, T: Tree, N: Station, I: Source, O: Sink
     input: &mut I,
     output: &mut O,
 ) -> Status
-    requires free { IsFree O.allowed }
+    // Each prefix of the text that the command writes may be written to the output, and each prefix of a talk
+    // with a connection to its link.
+    requires may { MayRun O.allowed (O.held output.old) (T.told tree.old) (command_of words.now) }
+    requires free_file { IsFree N.File.allowed }
     requires may_serve { MayServe N.Door.Link.Out.allowed }
     ensures usage { (result ≡ Status.Usage) ↔ (command_of words.now ≡ None) }
     ensures unread { result ≡ Status.Usage → I.left input.new ≡ I.left input.old }
@@ -59,6 +63,12 @@ pub fn polkitd<R: Threads + Wait + Sync, T: Tree, N: Station, I: Source, O: Sink
     // read make, as far as the status says.
     ensures replay { (root : Option (List ℕ)) (entries : ℕ) → command_of words.now ≡ Some (Named.Replay root entries) →
         ReplaysFrom (T.told tree.old) root (limits_of entries) (T.faults tree.old) (T.faults tree.new) (I.left input.old) (I.left input.new) (I.ended input.new) (O.held output.old) (O.held output.new) result }
+
+    // A replay over a journal in segments writes the same, and the segments of that history to a file of the
+    // station. A fault of the file is told only where the station's count rose.
+    ensures segments { (root : Option (List ℕ)) (path : List ℕ) (per : ℕ) → command_of words.now ≡ Some (Named.Segments root path per) →
+        ReplaysInSegments (T.told tree.old) root (T.faults tree.old) (T.faults tree.new) path per (I.left input.old) (I.left input.new) (I.ended input.new) (O.held output.old) (O.held output.new) (N.told station.old) (N.told station.new) result
+        × StationFaults (N.faults station.old) (N.faults station.new) result }
 
     // An audit writes the audit text of the legal history that the whole input makes, as far as the
     // status says.
@@ -86,7 +96,7 @@ pub fn polkitd<R: Threads + Wait + Sync, T: Tree, N: Station, I: Source, O: Sink
     // No other command makes anything by the station, or dials: it tells what it told. Nor does one that
     // loads no root look at the tree.
     ensures unmade { AsksNoStation (command_of words.now) → N.told station.new ≡ N.told station.old }
-    ensures uncounted { IsNoService (command_of words.now) → N.faults station.new ≡ N.faults station.old }
+    ensures uncounted { CountsNoStation (command_of words.now) → N.faults station.new ≡ N.faults station.old }
     ensures unlooked { AsksNoTree (command_of words.now) → (T.told tree.new ≡ T.told tree.old) × (T.faults tree.new ≡ T.faults tree.old) }
 
     // A fault of the outside is told exactly where the object counted it, by its last call. A service
@@ -97,6 +107,9 @@ pub fn polkitd<R: Threads + Wait + Sync, T: Tree, N: Station, I: Source, O: Sink
     match Command::read(words) {
         Some(Command::Replay { root, entries }) => {
             replay(alloc, root, limits_of(entries), tree, input, output)
+        }
+        Some(Command::Segments { root, path, per }) => {
+            replay_segments(alloc, root, path, per, tree, station, input, output)
         }
         Some(Command::Audit { root, entries }) => {
             audit(alloc, root, limits_of(entries), tree, input, output)

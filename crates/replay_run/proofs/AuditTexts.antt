@@ -10,6 +10,7 @@ use Rattle.authority_model.specs.Items.{items_of}
 use Rattle.authority_model.specs.Legal.{IsLegal}
 use Rattle.authority_laws.proofs.Tracing.{access}
 use Rattle.audit_text.specs.Audit.{audit_text}
+use Rattle.scenario_run.specs.Room.{whole}
 use Rattle.scenario_run.specs.Scene.{Scene, start}
 use Rattle.replay_run.specs.declared.ends.ReplayEnd.{ReplayEnd}
 use Rattle.replay_run.specs.declared.ends.ReplayEnd.TheVariants as end
@@ -27,6 +28,7 @@ unwritten begin l0 l ended before held end.ReadFault other r = r
 unwritten begin l0 l ended before held end.WriteFault other r = absurd r.run
 unwritten begin l0 l ended before held (end.JournalFull entries bytes) other r = r
 unwritten begin l0 l ended before held (end.BadLine line why) other r = r
+unwritten begin l0 l ended before held end.SegmentFault other r = r
 unwritten begin l0 l ended before held end.NoMemory other r = r
 
 -- memory was refused before the run began
@@ -60,11 +62,11 @@ refused begin l0 l ended before mid held r same = record {
   run = (inl (r.run.0, ([], r.run.2)), ([], ap (λ (w : List ℕ). w ++ []) (sym r.run.3)));
 }
 
-whole : (before mid held : Option (List ℕ)) (text : List ℕ) → Got before mid [] → Got mid held text → Got before held text
-whole before mid held text none got = Got-more before mid held [] text none got
+wrote_whole : (before mid held : Option (List ℕ)) (text : List ℕ) → Got before mid [] → Got mid held text → Got before held text
+wrote_whole before mid held text none got = Got-more before mid held [] text none got
 
 front : (before mid held : Option (List ℕ)) (text : List ℕ) → Got before mid [] → GotFront mid held text → GotFront before held text
-front before mid held text none f = (f.0, (f.1.0, f.1.1, whole before mid held f.1.0 none f.1.2))
+front before mid held text none f = (f.0, (f.1.0, f.1.1, wrote_whole before mid held f.1.0 none f.1.2))
 
 audited : (begin : Scene) (l0 l : Option (List ℕ)) (ended : Bool) (history : History) (Written : List ℕ → Type 0) → IsLegal history → IsRun begin l0 l ended (items_of history)
     → Written (audit_text history) → IsAudited begin l0 l ended Written
@@ -84,7 +86,7 @@ audited_so begin l0 l ended before mid held history past st r run items legal wr
     of st (subst (λ (p : List Item). IsRun begin l0 l ended p) (sym items) run) (nothing begin l0 l ended before mid r) written
   where
     of : (st : ReplayEnd) → IsRun begin l0 l ended (items_of history) → Got before mid [] → IsWritten history mid held st → Audits begin l0 l ended before held st
-    of end.Done run none w = audited begin l0 l ended history (Got before held) legal run (whole before mid held (audit_text history) none w)
+    of end.Done run none w = audited begin l0 l ended history (Got before held) legal run (wrote_whole before mid held (audit_text history) none w)
     of end.WriteFault run none w = audited begin l0 l ended history (GotFront before held) legal run (front before mid held (audit_text history) none w)
     of end.NoMemory run none w = refused begin l0 l ended before mid held r w
     of (end.TreeFault count) run none w = absurd w
@@ -92,9 +94,10 @@ audited_so begin l0 l ended before mid held history past st r run items legal wr
     of end.ReadFault run none w = absurd w
     of (end.JournalFull entries bytes) run none w = absurd w
     of (end.BadLine line why) run none w = absurd w
+    of end.SegmentFault run none w = absurd w
 
 -- no audit ends by its first load once it has begun
-pub goes_on : (limits : Limits) (l0 l : Option (List ℕ)) (ended : Bool) (before held : Option (List ℕ)) → GoesOn (λ (first : Loaded). Audits (start limits first) l0 l ended before held)
+pub goes_on : (limits : Limits) (l0 l : Option (List ℕ)) (ended : Bool) (before held : Option (List ℕ)) → GoesOn (λ (first : Loaded). Audits (start (whole limits) first) l0 l ended before held)
 goes_on limits l0 l ended before held = record {
   no_fault = λ first count r. r.run;
   no_refusal = λ first why r. r.run;

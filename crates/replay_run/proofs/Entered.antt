@@ -13,8 +13,8 @@ use Rattle.scenario_run.specs.declared.scenario.LineEffect.{LineEffect}
 use Rattle.scenario_run.specs.declared.scenario.LineEffect.TheVariants as taken
 use Rattle.scenario_run.specs.declared.scenario.LineStop.{LineStop}
 use Rattle.scenario_run.specs.declared.scenario.LineStop.TheVariants as stop
-use Rattle.scenario_run.specs.ScenarioRuns.{EffectIs, IsFilledLine, IsStop, last_outputs}
-use Rattle.scenario_run.specs.Text.{IsEntered, loads_of, one_more, outputs_text, counts_after, text_of}
+use Rattle.scenario_run.specs.ScenarioRuns.{EffectIs, IsFilledLine, IsStop}
+use Rattle.scenario_run.specs.Text.{IsEntered, last_outputs, loads_of, one_more, outputs_text, counts_after, text_of}
 use Rattle.replay_run.specs.declared.ends.Stopped.{Stopped}
 use Rattle.replay_run.specs.declared.ends.Stopped.TheVariants as stopped
 use Rattle.replay_run.specs.Telling.{told, OnlyTold}
@@ -79,6 +79,7 @@ entry_done tells Counted old new line before held (Ok done) ran e legal written 
 }
 entry_done tells Counted old new line before held (Err (stopped.Fault k)) ran e legal written = absurd written
 entry_done tells Counted old new line before held (Err (stopped.JournalFull entries bytes)) ran e legal written = absurd written
+entry_done tells Counted old new line before held (Err stopped.SegmentFault) ran e legal written = absurd written
 entry_done tells Counted old new line before held (Err stopped.WriteFault) ran e legal written = cut_where tells old new line before held ran e legal written
 entry_done tells Counted old new line before held (Err stopped.NoMemory) ran e legal written = inr (cut_where tells old new line before held ran e legal written)
 
@@ -124,4 +125,5 @@ full_done tells old new line held entries bytes (Err k) e filled = absurd filled
 -- what stopped a line stops the run
 pub stop_done : (tells : Bool) (old new : Scene) (line : List ℕ) (held : Option (List ℕ)) (st : LineStop) → IsStop old new (run_line old line) st → LineDone tells old line new held held (Err (stop_of st))
 stop_done tells old new line held (stop.Fault fault) is = fault_done tells old new line held fault.kind is
+stop_done tells old new line held stop.SegmentFault is = (is, refl)
 stop_done tells old new line held (stop.JournalFull entries bytes) is = full_done tells old new line held entries bytes (run_line old line) refl is

@@ -10,6 +10,7 @@ use Rattle.authority_model.specs.declared.journal.Item.{Item}
 use Rattle.authority_model.specs.Legal.{Legal}
 use Rattle.authority_laws.proofs.Tracing.{access}
 use Rattle.scenario_text.specs.declared.fault.LineKind.TheVariants as kind
+use Rattle.scenario_run.specs.Room.{IsInSegments}
 use Rattle.scenario_run.specs.Scene.{Scene}
 use Rattle.scenario_run.specs.Text.{text_of}
 use Rattle.replay_run.specs.declared.ends.Stopped.{Stopped}
@@ -18,7 +19,8 @@ use Rattle.replay_run.specs.declared.ends.ReplayEnd.{ReplayEnd}
 use Rattle.replay_run.specs.declared.ends.ReplayEnd.TheVariants as end
 use Rattle.replay_run.specs.Lines.{IsLineCutOff, IsLineAnswered, LineDone, end_of}
 use Rattle.replay_run.specs.Telling.{told, OnlyTold}
-use Rattle.replay_run.specs.Replay.{run, replayed, Whatever, IsBegun, IsFront, IsRun, Halt, Halts, Played, Plays}
+use Rattle.replay_run.specs.Replay.{Ran, run, replayed, Whatever, IsBegun, IsFront, IsRun, Halt, Halts, Played, Plays}
+use Rattle.replay_run.proofs.Grows.{run_keeping}
 use Rattle.replay_run.proofs.Runs.{Clean, joined, ran_to, run-append, run-one, lines_of-joined, joined-one, clean_one, history_at, halt_at, extends_at, next_extends, has_fault, is_filled, Begins, whatever_map, too_long_at}
 
 -- nothing was told of no text
@@ -155,6 +157,20 @@ memory_cut : (tells : Bool) {begin : Scene} {l0 l before held : Option (List ℕ
 memory_cut true so ended l' held' got line g a cut = cut_gives so ended l' held' got line end.NoMemory (λ read past written p. p) g a cut
 memory_cut false so ended l' held' got line g a cut = absurd cut
 
+-- the file of the segments failed in a line
+segment_fault : {tells : Bool} {begin : Scene} {l0 l before held : Option (List ℕ)} {pending : List ℕ} {s : Scene} {n : ℕ} (so : SoFar tells begin l0 l pending s n before held) (ended : Bool) (l' held' : Option (List ℕ))
+    (got : List ℕ) → Gave l l' got → IsInSegments s.keeping → held' ≡ held → Plays tells [] begin l0 l' ended before held' end.SegmentFault
+segment_fault {tells = tells} {begin = begin} {l0 = l0} {l = l} {before = before} {pending = pending} {s = s} {n = n} so ended l' held' got g none same = record {
+  read = so.read ++ got;
+  written = told tells (text_of s.past);
+  past = s.past;
+  gave = Gave-more l0 l l' so.read got so.gave g;
+  got = subst (λ (h : Option (List ℕ)). Got before h (told tells (text_of s.past))) (sym same) so.written;
+  legal = so.legal;
+  licensed = access s.past so.legal;
+  run = (subst IsInSegments (sym (sym (run_keeping so.lines 1 begin) ∙ ap (λ (r : Ran). r.scene.keeping) so.ran)) none, inr (λ more. extends_at begin ((so.read ++ got) ++ more) (lines_of ((pending ++ got) ++ more)) n s (replayed_on so got more)), refl);
+}
+
 -- a line that stopped the run
 pub stopped_gives : (e : Stopped) {tells : Bool} {begin : Scene} {l0 l before held : Option (List ℕ)} {pending : List ℕ} {s : Scene} {n : ℕ} (so : SoFar tells begin l0 l pending s n before held) (ended : Bool) (l' held' : Option (List ℕ))
     (got line : List ℕ) (s' : Scene) → Gave l l' got → Whatever ended (Begins begin line n s) (so.read ++ got) → LineDone tells s line s' held held' (Err e)
@@ -186,6 +202,7 @@ stopped_gives (stopped.JournalFull entries bytes) {tells = tells} {begin = begin
     ap (told tells) (sym done.0.text),
   );
 }
+stopped_gives stopped.SegmentFault so ended l' held' got line s' g a done = segment_fault so ended l' held' got g done.0 done.1
 stopped_gives stopped.WriteFault {tells = tells} so ended l' held' got line s' g a done = write_fault tells so ended l' held' got line g a done
 stopped_gives stopped.NoMemory so ended l' held' got line s' g a (inl same) = no_memory so ended l' held' got g same
 stopped_gives stopped.NoMemory {tells = tells} so ended l' held' got line s' g a (inr cut) = memory_cut tells so ended l' held' got line g a cut

@@ -13,7 +13,7 @@ use Rattle.replay_run.specs.declared.ends.ReplayEnd.TheVariants as end
 use Rattle.replay_run.specs.declared.written.WriteRefused.{WriteRefused}
 use Rattle.replay_run.specs.declared.written.WriteRefused.TheVariants as refused
 use Rattle.replay_run.specs.Faults.{InputFaults, OutputFaults, LineWrites, AnswerWrites}
-use Rattle.replay_run.specs.Lines.{stop_at, stop_of, end_of}
+use Rattle.replay_run.specs.Lines.{end_of, end_of_write, stop_at, stop_of}
 
 -- the last call failed, and none before it, from an earlier moment on that had the same count
 pub fails_later : {S : Type 0} (content : S → Option (List ℕ)) (faults : S → ℕ) (first before now : S) → faults before ≡ faults first
@@ -48,12 +48,14 @@ fault_writes held faults output other = refl
 pub stop_writes : {S : Type 0} (held : S → Option (List ℕ)) (faults : S → ℕ) (output : S) (st : LineStop) → LineWrites held faults output output (Err (stop_of st))
 stop_writes held faults output (stop.Fault fault) = fault_writes held faults output fault.kind
 stop_writes held faults output (stop.JournalFull entries bytes) = refl
+stop_writes held faults output stop.SegmentFault = refl
 
 -- a run that a line stopped had no read fault
 pub stopped_reads : {S : Type 0} (left : S → Option (List ℕ)) (faults : S → ℕ) (before now : S) (e : Stopped) (n : ℕ) → faults now ≡ faults before
     → InputFaults left faults before now (end_of e n)
 stopped_reads left faults before now (stopped.Fault kind) n quiet = quiet
 stopped_reads left faults before now (stopped.JournalFull entries bytes) n quiet = quiet
+stopped_reads left faults before now stopped.SegmentFault n quiet = quiet
 stopped_reads left faults before now stopped.WriteFault n quiet = quiet
 stopped_reads left faults before now stopped.NoMemory n quiet = quiet
 
@@ -62,6 +64,7 @@ pub stopped_writes : {S : Type 0} (held : S → Option (List ℕ)) (faults : S �
     → LineWrites held faults before now (Err e) → OutputFaults held faults first now (end_of e n)
 stopped_writes held faults first before now (stopped.Fault kind) n quiet writes = writes ∙ quiet
 stopped_writes held faults first before now (stopped.JournalFull entries bytes) n quiet writes = writes ∙ quiet
+stopped_writes held faults first before now stopped.SegmentFault n quiet writes = writes ∙ quiet
 stopped_writes held faults first before now stopped.WriteFault n quiet writes = fails_later held faults first before now quiet writes
 stopped_writes held faults first before now stopped.NoMemory n quiet writes = writes ∙ quiet
 
@@ -70,3 +73,13 @@ pub outputs_later : {S : Type 0} (held : S → Option (List ℕ)) (faults : S �
     → OutputFaults held faults before now s → OutputFaults held faults first now s
 outputs_later held faults first before now end.WriteFault quiet writes = fails_later held faults first before now quiet writes
 outputs_later held faults first before now other quiet writes = writes ∙ quiet
+
+-- the faults of a run that ended where what is written first was refused
+pub write_ends : {S : Type 0} (held : S → Option (List ℕ)) (faults : S → ℕ) (before now : S) (why : WriteRefused) → AnswerWrites held faults before now (Err why) → OutputFaults held faults before now (end_of_write why)
+write_ends held faults before now refused.Failed writes = writes
+write_ends held faults before now refused.NoMemory writes = writes
+
+-- and nothing was read
+pub write_reads : {S : Type 0} (left : S → Option (List ℕ)) (faults : S → ℕ) (input : S) (why : WriteRefused) → InputFaults left faults input input (end_of_write why)
+write_reads left faults input refused.Failed = refl
+write_reads left faults input refused.NoMemory = refl

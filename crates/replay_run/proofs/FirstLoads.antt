@@ -35,6 +35,7 @@ pub began_first : (told : Option TreeTold) (root : Option (List ℕ)) (before no
 began_first told root before now Untouched Runs end.Done goes run = run
 began_first told root before now Untouched Runs (end.TreeFault count) goes run = absurd (goes.no_fault run.first count run.run)
 began_first told root before now Untouched Runs (end.LoadRefused why) goes run = absurd (goes.no_refusal run.first why run.run)
+began_first told root before now Untouched Runs end.SegmentFault goes run = run
 began_first told root before now Untouched Runs end.ReadFault goes run = run
 began_first told root before now Untouched Runs end.WriteFault goes run = run
 began_first told root before now Untouched Runs (end.JournalFull entries bytes) goes run = run

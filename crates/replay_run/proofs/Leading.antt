@@ -2,7 +2,7 @@
 use Rattle.std.proofs.Common.{true, ◌++◌, [], List, ℕ, Bool, Option, refl, sym, ◌∙◌, ap, append_assoc, append-nil, inr}
 use Rattle.pk_outside.specs.Streams.{Got, GotFront}
 use Rattle.pk_outside.proofs.Written.{Gave-none, Got-more, Got-none}
-use Rattle.authority_model.specs.declared.journal.Limits.{Limits}
+use Rattle.scenario_run.specs.Room.{Keeping}
 use Rattle.authority_model.specs.declared.load.Loaded.{Loaded}
 use Rattle.scenario_run.specs.Scene.{Scene, start}
 use Rattle.scenario_text.specs.Skipped.{skipped_lines}
@@ -11,7 +11,10 @@ use Rattle.scenario_run.specs.Text.{text_of}
 use Rattle.authority_model.specs.declared.journal.Item.{Item}
 use Rattle.replay_run.specs.declared.ends.ReplayEnd.{ReplayEnd}
 use Rattle.replay_run.specs.declared.ends.ReplayEnd.TheVariants as end
-use Rattle.replay_run.specs.Replay.{IsFront, Played, Replays, replay_history}
+use Rattle.replay_run.specs.declared.written.WriteRefused.{WriteRefused}
+use Rattle.replay_run.specs.declared.written.WriteRefused.TheVariants as refused
+use Rattle.replay_run.specs.Lines.{end_of_write}
+use Rattle.replay_run.specs.Replay.{IsBegun, IsFront, Played, Replays, Whatever, replay_history}
 
 front_after : (lead written text : List ℕ) → IsFront written text → IsFront (lead ++ written) (lead ++ text)
 front_after lead written text f = (f.0, ap (λ t. lead ++ t) f.1 ∙ sym (append_assoc lead written f.0))
@@ -22,6 +25,7 @@ replayed_after : (lead : List ℕ) (begin : Scene) (ended : Bool) (read : List �
 replayed_after lead begin ended read past written end.Done run = (run.0, run.1, run.2, ap (λ t. lead ++ t) run.3)
 replayed_after lead begin ended read past written (end.BadLine line why) run = (run.0, ap (λ t. lead ++ t) run.1)
 replayed_after lead begin ended read past written (end.JournalFull entries bytes) run = (run.0, ap (λ t. lead ++ t) run.1)
+replayed_after lead begin ended read past written end.SegmentFault run = (run.0, run.1, ap (λ t. lead ++ t) run.2)
 replayed_after lead begin ended read past written end.ReadFault run = (run.0, ap (λ t. lead ++ t) run.1)
 replayed_after lead begin ended read past written end.WriteFault run = (run.0, front_after lead written (text_of past) run.1)
 replayed_after lead begin ended read past written end.NoMemory run = (run.0, front_after lead written (text_of past) run.1)
@@ -41,9 +45,10 @@ run_after lead begin l0 l ended before mid held st got r = record {
   run = replayed_after lead begin ended r.read r.past r.written st r.run;
 }
 
--- the output failed while the first bytes were written
-pub lead_failed : (lead : List ℕ) (begin : Scene) (left : Option (List ℕ)) (ended : Bool) (before held : Option (List ℕ)) → GotFront before held lead → Replays lead begin left left ended before held end.WriteFault
-lead_failed lead begin left ended before held front = record {
+-- the first bytes were refused, and a prefix of them was written
+pub lead_refused : (lead : List ℕ) (begin : Scene) (left : Option (List ℕ)) (ended : Bool) (before held : Option (List ℕ)) (why : WriteRefused) → GotFront before held lead
+    → Replays lead begin left left ended before held (end_of_write why)
+lead_refused lead begin left ended before held why front = record {
   read = [];
   written = front.1.0;
   past = [];
@@ -51,23 +56,17 @@ lead_failed lead begin left ended before held front = record {
   got = front.1.2;
   legal = tt;
   licensed = tt;
-  run = (inr (λ more. (replay_history begin more, sym (append-nil (replay_history begin more)))), (front.0, append-nil lead ∙ front.1.1));
+  run = of why;
 }
+  where
+    stands : Whatever ended (IsBegun begin []) [] × IsFront front.1.0 (lead ++ [])
+    stands = (inr (λ more. (replay_history begin more, sym (append-nil (replay_history begin more)))), (front.0, append-nil lead ∙ front.1.1))
 
--- memory was refused before anything was written
-pub lead_refused : (lead : List ℕ) (begin : Scene) (left : Option (List ℕ)) (ended : Bool) (held : Option (List ℕ)) → Replays lead begin left left ended held held end.NoMemory
-lead_refused lead begin left ended held = record {
-  read = [];
-  written = [];
-  past = [];
-  gave = Gave-none left;
-  got = Got-none held;
-  legal = tt;
-  licensed = tt;
-  run = (inr (λ more. (replay_history begin more, sym (append-nil (replay_history begin more)))), (lead, append-nil lead));
-}
+    of : (why : WriteRefused) → Played true lead begin ended [] [] front.1.0 (end_of_write why)
+    of refused.Failed = stands
+    of refused.NoMemory = stands
 
--- memory was refused when the first bytes were written
+-- memory was refused once the first bytes were written
 pub begin_refused : (lead : List ℕ) (begin : Scene) (left : Option (List ℕ)) (ended : Bool) (before held : Option (List ℕ)) → Got before held lead → Replays lead begin left left ended before held end.NoMemory
 begin_refused lead begin left ended before held got = record {
   read = [];
@@ -81,8 +80,8 @@ begin_refused lead begin left ended before held got = record {
 }
 
 -- no replay ends by its first load once it has begun
-pub goes_on : (limits : Limits) (l0 l : Option (List ℕ)) (ended : Bool) (before held : Option (List ℕ)) → GoesOn (λ (first : Loaded). Replays (skipped_lines first.faults) (start limits first) l0 l ended before held)
-goes_on limits l0 l ended before held = record {
+pub goes_on : (keeping : Keeping) (l0 l : Option (List ℕ)) (ended : Bool) (before held : Option (List ℕ)) → GoesOn (λ (first : Loaded). Replays (skipped_lines first.faults) (start keeping first) l0 l ended before held)
+goes_on keeping l0 l ended before held = record {
   no_fault = λ first count r. r.run;
   no_refusal = λ first why r. r.run;
 }

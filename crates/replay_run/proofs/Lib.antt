@@ -8,3 +8,4 @@ pub mod Leading
 pub mod Runs
 pub mod Texts
 pub mod Told
+pub mod Promised

@@ -1,11 +1,10 @@
 -- Answers that are told, or not.
-use Rattle.std.proofs.Common.{◌≡◌, ℕ, Bool, true, List, [], Option, Result, Ok, Err, OnOk, OnErr, sym, subst}
+use Rattle.std.proofs.Common.{◌≡◌, ℕ, Bool, true, List, [], Option, Result, Ok, Err, OnOk, OnErr, ap, sym, subst}
 use Rattle.pk_outside.specs.Streams.{Got, GotFront}
 use Rattle.authority_model.specs.declared.journal.Item.{Item}
 use Rattle.authority_model.specs.declared.load.Loaded.{Loaded}
 use Rattle.authority_model.specs.declared.message.Output.{Output}
-use Rattle.scenario_run.specs.ScenarioRuns.{last_outputs}
-use Rattle.scenario_run.specs.Text.{loads_of, outputs_text, counts_after}
+use Rattle.scenario_run.specs.Text.{counts_after, last_outputs, loads_of, outputs_text}
 use Rattle.replay_run.specs.declared.ends.Stopped.{Stopped}
 use Rattle.replay_run.specs.declared.ends.Stopped.TheVariants as stopped
 use Rattle.replay_run.specs.declared.written.WriteRefused.{WriteRefused}
@@ -15,7 +14,8 @@ use Rattle.replay_run.specs.Counted.{counted}
 use Rattle.replay_run.specs.declared.telling.Telling.{Telling}
 use Rattle.replay_run.specs.declared.telling.Telling.TheVariants as telling
 use Rattle.authority_model.specs.Items.{sent}
-use Rattle.replay_run.specs.Telling.{AreTold, HasCounted}
+use Rattle.replay_run.specs.Telling.{AreTold, HasCounted, OnlyTold, tells}
+use Rattle.replay_run.proofs.Texts.{front_none}
 
 -- answers that were written and counted are told
 pub written_told : (loads : List Loaded) (counts counted counted' : ℕ → ℕ) (answers : List Output) (before held : Option (List ℕ)) (r : Result (Unit {0}) WriteRefused) → counted ≡ counts
@@ -47,3 +47,7 @@ last_told tells Counted past loads answers counts before held r same_loads same_
 -- nothing was counted at first
 pub none_counted : (t : Telling) (counts : List (ℕ × ℕ)) → t ≡ telling.Answers counts → ((c : ℕ) → counted counts c ≡ 0) → HasCounted t (sent [])
 none_counted t counts is none = subst (λ (x : Telling). HasCounted x (sent [])) (sym is) (λ k c. none c k)
+
+-- nothing was written of answers that are told
+pub none_told : (t : Telling) (counts : List (ℕ × ℕ)) (held : Option (List ℕ)) (text : List ℕ) → t ≡ telling.Answers counts → OnlyTold (tells t) (GotFront held held text)
+none_told t counts held text is = subst (λ (b : Bool). OnlyTold b (GotFront held held text)) (sym (ap tells is)) (front_none held text)

@@ -8,6 +8,7 @@ use Rattle.authority_model.specs.Items.{items_of}
 use Rattle.authority_model.specs.Legal.{IsLegal}
 use Rattle.authority_model.specs.Licensed.{AllLicensed}
 use Rattle.audit_text.specs.Audit.{audit_text}
+use Rattle.scenario_run.specs.Room.{whole}
 use Rattle.scenario_run.specs.Scene.{Scene, start}
 use Rattle.replay_run.specs.declared.ends.ReplayEnd.{ReplayEnd}
 use Rattle.replay_run.specs.declared.ends.ReplayEnd.TheVariants as end
@@ -43,4 +44,4 @@ Audits begin left_before left ended held_before held other = EndsUnwritten begin
 abbrev pub AuditsFrom : Option TreeTold → Option (List ℕ) → Limits → ℕ → ℕ → Option (List ℕ) → Option (List ℕ) → Bool → Option (List ℕ) → Option (List ℕ) → ReplayEnd → Type 0
 AuditsFrom told root limits before now left_before left ended held_before held =
     RunsFrom told root before now (IsUntouched left_before left held_before held)
-    (λ first. Audits (start limits first) left_before left ended held_before held)
+    (λ first. Audits (start (whole limits) first) left_before left ended held_before held)

@@ -5,15 +5,17 @@ use Rattle.authority_model.specs.declared.journal.Item.{Item}
 use Rattle.authority_model.specs.Legal.{Legal}
 use Rattle.scenario_text.specs.declared.fault.LineKind.{LineKind}
 use Rattle.scenario_text.specs.declared.fault.LineKind.TheVariants as kind
+use Rattle.scenario_run.specs.Room.{IsInSegments}
 use Rattle.scenario_run.specs.Scene.{Scene, reached, run_line}
 use Rattle.scenario_run.specs.declared.scenario.LineStop.{LineStop}
 use Rattle.scenario_run.specs.declared.scenario.LineStop.TheVariants as stop
-use Rattle.scenario_run.specs.ScenarioRuns.{last_outputs}
-use Rattle.scenario_run.specs.Text.{loads_of, outputs_text, counts_after, text_of}
+use Rattle.scenario_run.specs.Text.{counts_after, last_outputs, loads_of, outputs_text, text_of}
 use Rattle.replay_run.specs.Telling.{told, OnlyTold}
 use Rattle.replay_run.specs.declared.ends.Stopped.{Stopped}
 use Rattle.replay_run.specs.declared.ends.Stopped.TheVariants as stopped
 use Rattle.replay_run.specs.declared.ends.ReplayEnd.{ReplayEnd}
+use Rattle.replay_run.specs.declared.written.WriteRefused.{WriteRefused}
+use Rattle.replay_run.specs.declared.written.WriteRefused.TheVariants as refused
 use Rattle.replay_run.specs.declared.ends.ReplayEnd.TheVariants as end
 
 -- the line led to the next scene, and a prefix of the text that it adds was written
@@ -44,6 +46,7 @@ abbrev pub LineDone : Bool → Scene → List ℕ → Scene → Option (List ℕ
 LineDone tells old line new before held (Ok done) = IsLineAnswered tells old line new before held
 LineDone tells old line new before held (Err (stopped.Fault kind)) = (run_line old line ≡ Err kind) × (held ≡ before)
 LineDone tells old line new before held (Err (stopped.JournalFull entries bytes)) = IsLineFull old line new entries bytes × (held ≡ before)
+LineDone tells old line new before held (Err stopped.SegmentFault) = IsInSegments old.keeping × (held ≡ before)
 LineDone tells old line new before held (Err stopped.WriteFault) = OnlyTold tells (IsLineCutOff old line before held)
 LineDone tells old line new before held (Err stopped.NoMemory) = (held ≡ before) ⊎ OnlyTold tells (IsLineCutOff old line before held)
 
@@ -53,6 +56,7 @@ LastTold tells Counted past counts before held (Ok done) =
     Got before held (told tells (outputs_text (loads_of past) counts (last_outputs past))) × Counted (counts_after counts (last_outputs past))
 LastTold tells Counted past counts before held (Err (stopped.Fault kind)) = ⊥
 LastTold tells Counted past counts before held (Err (stopped.JournalFull entries bytes)) = ⊥
+LastTold tells Counted past counts before held (Err stopped.SegmentFault) = ⊥
 LastTold tells Counted past counts before held (Err stopped.WriteFault) = OnlyTold tells (GotFront before held (outputs_text (loads_of past) counts (last_outputs past)))
 LastTold tells Counted past counts before held (Err stopped.NoMemory) = OnlyTold tells (GotFront before held (outputs_text (loads_of past) counts (last_outputs past)))
 
@@ -65,10 +69,17 @@ stop_at fault = stopped.Fault fault
 abbrev pub stop_of : LineStop → Stopped
 stop_of (stop.Fault fault) = stop_at fault.kind
 stop_of (stop.JournalFull entries bytes) = stopped.JournalFull entries bytes
+stop_of stop.SegmentFault = stopped.SegmentFault
+
+-- how a run ends where what is written first is refused
+abbrev pub end_of_write : WriteRefused → ReplayEnd
+end_of_write refused.Failed = end.WriteFault
+end_of_write refused.NoMemory = end.NoMemory
 
 -- how a run ends at a line that stopped it
 abbrev pub end_of : Stopped → ℕ → ReplayEnd
 end_of (stopped.Fault kind) line = end.BadLine line kind
 end_of (stopped.JournalFull entries bytes) line = end.JournalFull entries bytes
+end_of stopped.SegmentFault line = end.SegmentFault
 end_of stopped.WriteFault line = end.WriteFault
 end_of stopped.NoMemory line = end.NoMemory

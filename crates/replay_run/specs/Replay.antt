@@ -8,6 +8,7 @@ use Rattle.authority_model.specs.Legal.{Legal}
 use Rattle.authority_model.specs.Licensed.{AllLicensed}
 use Rattle.scenario_text.specs.declared.fault.LineKind.{LineKind}
 use Rattle.authority_model.specs.Entering.{Fullness}
+use Rattle.scenario_run.specs.Room.{IsInSegments}
 use Rattle.scenario_run.specs.Scene.{Outcome, Scene, run_line}
 use Rattle.scenario_run.specs.Text.{text_of}
 use Rattle.replay_run.specs.Telling.{told, OnlyTold}
@@ -93,6 +94,7 @@ Played tells lead begin ended read past written end.Done =
 Played tells lead begin ended read past written (end.BadLine line kind) = Whatever ended (Halts begin past (Halt.Fault line kind)) read × (written ≡ lead ++ told tells (text_of past))
 Played tells lead begin ended read past written (end.JournalFull entries bytes) =
     Whatever ended (Halts begin past (Halt.Full (record { entries = entries; bytes = bytes }))) read × (written ≡ lead ++ told tells (text_of past))
+Played tells lead begin ended read past written end.SegmentFault = IsInSegments begin.keeping × Whatever ended (IsBegun begin past) read × (written ≡ lead ++ told tells (text_of past))
 Played tells lead begin ended read past written end.ReadFault = IsCutOff begin read past × (written ≡ lead ++ told tells (text_of past))
 Played tells lead begin ended read past written end.WriteFault = OnlyTold tells (Whatever ended (IsBegun begin past) read × IsFront written (lead ++ text_of past))
 Played tells lead begin ended read past written end.NoMemory = Whatever ended (IsBegun begin past) read × IsFront written (lead ++ told tells (text_of past))

@@ -2,12 +2,12 @@
 use Rattle.std.specs.Prelude.{◌≡◌, ◌⊎◌, ℕ, Bool, List, Option, None, Some, Ok, Err, IfSome, IsSome}
 use Rattle.pk_outside.specs.Causes.{Rose}
 use Rattle.pk_outside.specs.Trees.{TreeTold}
-use Rattle.authority_model.specs.declared.journal.Limits.{Limits}
 use Rattle.authority_model.specs.declared.load.Loaded.{Loaded}
 use Rattle.authority_model.specs.Items.{empty_loaded}
 use Rattle.policy_load.specs.declared.refused.LoadRefused.{LoadRefused}
 use Rattle.policy_load.specs.declared.refused.LoadRefused.TheVariants as refused
 use Rattle.policy_load.specs.Loads.{load_of}
+use Rattle.scenario_run.specs.Room.{Keeping}
 use Rattle.scenario_run.specs.Scene.{start}
 use Rattle.scenario_text.specs.Skipped.{skipped_lines}
 use Rattle.replay_run.specs.declared.ends.ReplayEnd.{ReplayEnd}
@@ -54,8 +54,8 @@ RunsFrom told root before now Untouched Runs (end.LoadRefused refused) = Untouch
 RunsFrom told root before now Untouched Runs end.NoMemory = Untouched ⊎ RunsFirst told root Runs end.NoMemory
 RunsFrom told root before now Untouched Runs other = RunsFirst told root Runs other
 
--- A replay from a root: what the first load skipped is told first, and then the lines of the input are run.
-abbrev pub ReplaysFrom : Option TreeTold → Option (List ℕ) → Limits → ℕ → ℕ → Option (List ℕ) → Option (List ℕ) → Bool → Option (List ℕ) → Option (List ℕ) → ReplayEnd → Type 0
-ReplaysFrom told root limits before now left_before left ended held_before held =
+-- A replay from a root, over a journal that is kept so: what the first load skipped is told first, and then the lines of the input are run.
+abbrev pub ReplaysFrom : Option TreeTold → Option (List ℕ) → Keeping → ℕ → ℕ → Option (List ℕ) → Option (List ℕ) → Bool → Option (List ℕ) → Option (List ℕ) → ReplayEnd → Type 0
+ReplaysFrom told root keeping before now left_before left ended held_before held =
     RunsFrom told root before now (IsUntouched left_before left held_before held)
-    (λ first. Replays (skipped_lines first.faults) (start limits first) left_before left ended held_before held)
+    (λ first. Replays (skipped_lines first.faults) (start keeping first) left_before left ended held_before held)

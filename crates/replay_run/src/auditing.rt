@@ -1,11 +1,14 @@
 // A scenario is audited: it is run to its end, and then the audit text of its journal is written.
 ghost use Rattle.std.specs.Prelude.{◌≡◌};
 ghost use Rattle.std.specs.Option.{option_copied};
-ghost use Rattle.pk_outside.specs.Allowing.{IsFree};
+ghost use Rattle.pk_outside.specs.Allowing.{MayFronts};
 ghost use Rattle.authority_model.specs.Entering.{AreAllowed};
+ghost use Rattle.scenario_run.specs.Room.{whole};
 ghost use Rattle.scenario_run.specs.Scene.{start};
+ghost use Rattle.audit_text.specs.Audit.{audit_text};
 ghost use Rattle.replay_run.specs.Audited.{Audits, AuditsFrom, IsWritten};
 ghost use Rattle.replay_run.specs.Faults.{InputFaults, OutputFaults};
+ghost use Rattle.replay_run.specs.Promises.{MayAudit};
 
 use crate::ends::ReplayEnd;
 use crate::first::{first_draft, refused_end};
@@ -19,7 +22,7 @@ use std::alloc::Global;
 
 /// Writes the audit text of a history.
 fn write_text<O: Sink>(alloc: Global, history: &History, output: &mut O) -> ReplayEnd
-    requires free { IsFree O.allowed }
+    requires may { MayFronts O.allowed (O.held output.old) (audit_text history.now) }
     ensures written { IsWritten history.now (O.held output.old) (O.held output.new) result }
     ensures write { OutputFaults O.held O.faults output.old output.new result }
 {
@@ -39,8 +42,8 @@ fn audit_from<I: Source, O: Sink>(
     output: &mut O,
 ) -> ReplayEnd
     requires limits { AreAllowed limits }
-    requires free { IsFree O.allowed }
-    ensures run { Audits (start limits first) (I.left input.old) (I.left input.new) (I.ended input.new) (O.held output.old) (O.held output.new) result }
+    requires may { MayAudit O.allowed (O.held output.old) }
+    ensures run { Audits (start (whole limits) first) (I.left input.old) (I.left input.new) (I.ended input.new) (O.held output.old) (O.held output.new) result }
     ensures read { InputFaults I.left I.faults input.old input.new result }
     ensures write { OutputFaults O.held O.faults output.old output.new result }
 {
@@ -49,7 +52,10 @@ fn audit_from<I: Source, O: Sink>(
         Err(NoMemory) => return ReplayEnd::NoMemory,
     };
     match playback.run(input, output) {
-        ReplayEnd::Done => write_text(alloc, playback.history(), output),
+        ReplayEnd::Done => match playback.journal().history() {
+            Some(history) => write_text(alloc, history, output),
+            None => unreachable!(),
+        },
         end => end,
     }
 }
@@ -71,7 +77,8 @@ pub fn audit<T: Tree, I: Source, O: Sink>(
     output: &mut O,
 ) -> ReplayEnd
     requires limits { AreAllowed limits }
-    requires free { IsFree O.allowed }
+    // Each prefix of the audit text of some legal history may be written.
+    requires may { MayAudit O.allowed (O.held output.old) }
 
     // What is written is the audit text of the legal history that the whole input makes, as far as the
     // end says, and nothing where the run stopped before.

@@ -22,6 +22,8 @@ pub enum ReplayEnd {
     /// A further entry was due, and the journal had reached a limit. It has this many entries and
     /// counted bytes.
     JournalFull { entries: u64, bytes: u64 },
+    /// The file of the segments counted a fault, of a journal in segments.
+    SegmentFault,
     /// A line is not in the grammar of scenarios. Lines are counted from 1.
     BadLine { line: u64, kind: LineKind },
     /// Memory was refused.
@@ -35,6 +37,8 @@ pub enum Stopped {
     Fault(LineKind),
     /// The journal was full. It has this many entries and counted bytes.
     JournalFull { entries: u64, bytes: u64 },
+    /// The file of the segments failed, and counted it.
+    SegmentFault,
     /// The output failed, and counted it.
     WriteFault,
     /// Memory was refused.
@@ -55,6 +59,7 @@ impl Stopped {
             ) => Stopped::NoMemory,
             LineStop::Fault(LineFault { kind, .. }) => Stopped::Fault(kind),
             LineStop::JournalFull { entries, bytes } => Stopped::JournalFull { entries, bytes },
+            LineStop::SegmentFault => Stopped::SegmentFault,
         }
     }
 
@@ -65,6 +70,7 @@ impl Stopped {
         match self {
             Stopped::Fault(kind) => ReplayEnd::BadLine { line: number, kind },
             Stopped::JournalFull { entries, bytes } => ReplayEnd::JournalFull { entries, bytes },
+            Stopped::SegmentFault => ReplayEnd::SegmentFault,
             Stopped::WriteFault => ReplayEnd::WriteFault,
             Stopped::NoMemory => ReplayEnd::NoMemory,
         }

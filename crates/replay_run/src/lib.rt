@@ -11,9 +11,16 @@ mod first;
 mod playing;
 mod replaying;
 mod sent_counts;
+mod skipped;
 mod telling;
 mod written;
 
 pub use auditing::audit;
 pub use ends::ReplayEnd;
+pub use first::{first_draft, refused_end};
+pub use playing::Playback;
 pub use replaying::replay;
+pub use sent_counts::SentCounts;
+pub use skipped::write_skipped;
+pub use telling::Telling;
+pub use written::WriteRefused;

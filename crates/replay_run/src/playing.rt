@@ -1,35 +1,36 @@
 // A scenario is run line by line, and told as far as it is told.
 ghost use Rattle.std.specs.Prelude.{◌≡◌, ◌≤◌, ℕ, [], IfOk, OnOk};
-ghost use Rattle.pk_outside.specs.Allowing.{IsFree};
 ghost use Rattle.authority_model.specs.Entering.{AreAllowed};
-ghost use Rattle.authority_model.specs.Items.{items_of, sent};
-ghost use Rattle.authority_model.specs.Legal.{IsLegal, Legal};
+ghost use Rattle.authority_model.specs.Items.{sent};
+ghost use Rattle.authority_model.specs.Legal.{Legal};
 ghost use Rattle.replay_run.specs.Faults.{InputFaults, OutputFaults, LineWrites};
 ghost use Rattle.replay_run.specs.Lines.{LastTold, LineDone};
-ghost use Rattle.replay_run.specs.Playing.{Begins};
+ghost use Rattle.replay_run.specs.Promises.{MayTellLast, MayTellOn};
 ghost use Rattle.replay_run.specs.Replay.{Plays, IsRun};
 ghost use Rattle.replay_run.specs.Telling.{HasCounted, tells};
+ghost use Rattle.scenario_run.specs.Room.{whole};
 ghost use Rattle.scenario_run.specs.Scene.{start};
 
 use crate::ends::{ReplayEnd, Stopped};
 use crate::telling::Telling;
 use crate::written::WriteRefused;
-use authority_model::{History, Limits, Loaded};
+use authority_core::Authority;
+use authority_model::{Limits, Loaded};
 use pk_outside::{Sink, Source};
 use pk_types::NoMemory;
-use scenario_run::{LineEffect, ScenarioRun};
+use scenario_run::{Journal, LineEffect, NoFile, ScenarioRun};
 use scenario_text::{LineKind, MAX_LINE};
 use source_buffer::{LineRead, LineReader};
 use std::alloc::Global;
 
 /// Tells the answers of the last entry.
-fn tell_last<O: Sink>(
+fn tell_last<F: Sink, O: Sink>(
     alloc: Global,
-    scenario: &ScenarioRun,
+    scenario: &ScenarioRun<F>,
     telling: &mut Telling,
     output: &mut O,
 ) -> Result<(), Stopped>
-    requires free { IsFree O.allowed }
+    requires may { Legal scenario.now.past → MayTellLast telling.old O.allowed (O.held output.old) scenario.now.past }
     ensures same { tells telling.new ≡ tells telling.old }
     ensures told { (counts : ℕ → ℕ) → HasCounted telling.old counts →
         LastTold (tells telling.old) (HasCounted telling.new) scenario.now.past counts (O.held output.old) (O.held output.new) result }
@@ -37,7 +38,7 @@ fn tell_last<O: Sink>(
     ensures faults { LineWrites O.held O.faults output.old output.new result }
     ensures later { O.faults output.old ≤ O.faults output.new }
 {
-    match telling.tell(alloc, scenario.history(), scenario.last_outputs(), output) {
+    match telling.tell(alloc, scenario.journal(), output) {
         Ok(()) => Ok(()),
         Err(WriteRefused::Failed) => Err(Stopped::WriteFault),
         Err(WriteRefused::NoMemory) => Err(Stopped::NoMemory),
@@ -45,9 +46,9 @@ fn tell_last<O: Sink>(
 }
 
 /// Does what a line says, and tells its answers.
-fn answer<O: Sink>(
+fn answer<F: Sink, O: Sink>(
     alloc: Global,
-    scenario: &mut ScenarioRun,
+    scenario: &mut ScenarioRun<F>,
     telling: &mut Telling,
     line: &[u8],
     number: u64,
@@ -55,9 +56,10 @@ fn answer<O: Sink>(
 ) -> Result<(), Stopped>
     requires counted { HasCounted telling.old (sent scenario.old.past) }
     requires legal { Legal scenario.old.past }
-    requires free { IsFree O.allowed }
+    requires may { MayTellOn (tells telling.old) O.allowed (O.held output.old) scenario.old.past }
     ensures same { tells telling.new ≡ tells telling.old }
     ensures counted { OnOk result (HasCounted telling.new (sent scenario.new.past)) }
+    ensures kept { scenario.new.keeping ≡ scenario.old.keeping }
     ensures done { LineDone (tells telling.old) scenario.old line.now scenario.new (O.held output.old) (O.held output.new) result }
     ensures faults { LineWrites O.held O.faults output.old output.new result }
     ensures later { O.faults output.old ≤ O.faults output.new }
@@ -71,49 +73,74 @@ fn answer<O: Sink>(
 
 /// A run of a scenario under way.
 #[derive(Drop)]
-pub struct Playback {
+pub struct Playback<F: Sink> {
     alloc: Global,
     reader: LineReader,
-    scenario: ScenarioRun,
+    scenario: ScenarioRun<F>,
     telling: Telling,
     line: Vec<u8>,
     /// The number of the next line, counted from 1.
     number: u64,
 }
 
-impl Playback {
-    /// A run that has read nothing, begins with this draft, and tells what it is given to.
+impl Playback<NoFile> {
+    /// A run that has read nothing, begins with this draft and an empty journal that is kept whole, and
+    /// tells what it is given to.
     pub fn start(
         alloc: Global,
         limits: Limits,
         draft: Loaded,
         telling: Telling,
-    ) -> Result<Playback, NoMemory>
+    ) -> Result<Playback<NoFile>, NoMemory>
         requires limits { AreAllowed limits }
-        ensures begins { IfOk result Begins }
-        ensures scenario { IfOk result (λ playback. playback.scenario ≡ start limits draft) }
+        ensures reader { IfOk result (λ playback. playback.reader ≡ []) }
+        ensures number { IfOk result (λ playback. playback.number ≡ 1) }
+        ensures scenario { IfOk result (λ playback. playback.scenario ≡ start (whole limits) draft) }
         ensures telling { IfOk result (λ playback. playback.telling ≡ telling) }
     {
         let reader = LineReader::new(alloc)?;
-        let scenario = ScenarioRun::start(alloc, limits, draft)?;
-        Ok(Playback {
+        let journal = Journal::whole(Authority::start(alloc, limits)?);
+        Ok(Playback::over(alloc, reader, journal, draft, telling))
+    }
+}
+
+impl<F: Sink> Playback<F> {
+    /// A run that has read nothing, begins with this draft and a journal without an item, and tells what it
+    /// is given to.
+    pub fn over(
+        alloc: Global,
+        reader: LineReader,
+        journal: Journal<F>,
+        draft: Loaded,
+        telling: Telling,
+    ) -> Playback<F>
+        requires none { journal.past ≡ [] }
+        ensures reader { result.reader ≡ reader }
+        ensures number { result.number ≡ 1 }
+        ensures scenario { result.scenario ≡ start journal.keeping draft }
+        ensures telling { result.telling ≡ telling }
+    {
+        Playback {
             alloc,
             reader,
-            scenario,
+            scenario: ScenarioRun::start(journal, draft),
             telling,
             line: Vec::new(alloc),
             number: 1,
-        })
+        }
     }
 
     /// Runs the lines of the input, until it ends or the first fault comes.
     pub fn run<I: Source, O: Sink>(&mut self, input: &mut I, output: &mut O) -> ReplayEnd
-        requires begins { Begins self.old }
+        requires reader { self.old.reader ≡ [] }
+        requires number { self.old.number ≡ 1 }
+        requires none { self.old.scenario.past ≡ [] }
         requires counted { HasCounted self.old.telling (sent []) }
-        requires free { IsFree O.allowed }
+        requires may { MayTellOn (tells self.old.telling) O.allowed (O.held output.old) self.old.scenario.past }
         ensures run { Plays (tells self.old.telling) [] self.old.scenario (I.left input.old) (I.left input.new) (I.ended input.new) (O.held output.old) (O.held output.new) result }
         ensures whole { result ≡ ReplayEnd.Done →
             IsRun self.old.scenario (I.left input.old) (I.left input.new) (I.ended input.new) self.new.scenario.past }
+        ensures kept { self.new.scenario.keeping ≡ self.old.scenario.keeping }
         ensures read { InputFaults I.left I.faults input.old input.new result }
         ensures write { OutputFaults O.held O.faults output.old output.new result }
     {
@@ -150,11 +177,19 @@ impl Playback {
         }
     }
 
-    /// The journal so far, which is legal.
-    pub fn history(&self) -> &History
-        ensures items { items_of result.now ≡ self.now.scenario.past }
-        ensures legal { IsLegal result.now }
+    /// The journal so far.
+    pub fn journal(&self) -> &Journal<F>
+        ensures past { result.now.past ≡ self.now.scenario.past }
+        ensures kept { result.now.keeping ≡ self.now.scenario.keeping }
     {
-        self.scenario.history()
+        self.scenario.journal()
+    }
+
+    /// The journal, once the run has ended.
+    pub fn into_journal(self) -> Journal<F>
+        ensures past { result.past ≡ self.scenario.past }
+        ensures kept { result.keeping ≡ self.scenario.keeping }
+    {
+        self.scenario.into_journal()
     }
 }

@@ -1,11 +1,12 @@
 // A scenario is replayed: its answers are written as they come.
 ghost use Rattle.std.specs.Prelude.{◌≡◌, ◌≤◌};
 ghost use Rattle.std.specs.Option.{option_copied};
-ghost use Rattle.pk_outside.specs.Allowing.{IsFree};
 ghost use Rattle.authority_model.specs.Entering.{AreAllowed};
+ghost use Rattle.scenario_run.specs.Room.{whole};
 ghost use Rattle.scenario_run.specs.Scene.{start};
 ghost use Rattle.scenario_text.specs.Skipped.{skipped_lines};
 ghost use Rattle.replay_run.specs.Faults.{InputFaults, OutputFaults};
+ghost use Rattle.replay_run.specs.Promises.{MayReplay, MayReplayFrom};
 ghost use Rattle.replay_run.specs.Replay.{Replays};
 ghost use Rattle.replay_run.specs.Rooted.{ReplaysFrom};
 
@@ -13,15 +14,14 @@ use crate::ends::ReplayEnd;
 use crate::first::{first_draft, refused_end};
 use crate::playing::Playback;
 use crate::sent_counts::SentCounts;
+use crate::skipped::write_skipped;
 use crate::telling::Telling;
 use authority_model::{Limits, Loaded};
-use pk_outside::{Failed, Sink, Source, Tree, write_all};
+use pk_outside::{Sink, Source, Tree};
 use pk_types::{NoMemory, Text};
-use scenario_text::skipped_text;
 use std::alloc::Global;
 
 /// Writes what the draft skipped, and runs the scenario from it.
-#[tactic(auto, using(pk_outside::proofs::Going::may_go_free))]
 fn replay_from<I: Source, O: Sink>(
     alloc: Global,
     limits: Limits,
@@ -30,18 +30,14 @@ fn replay_from<I: Source, O: Sink>(
     output: &mut O,
 ) -> ReplayEnd
     requires limits { AreAllowed limits }
-    requires free { IsFree O.allowed }
-    ensures run { Replays (skipped_lines first.faults) (start limits first) (I.left input.old) (I.left input.new) (I.ended input.new) (O.held output.old) (O.held output.new) result }
+    requires may { MayReplayFrom O.allowed (O.held output.old) first }
+    ensures run { Replays (skipped_lines first.faults) (start (whole limits) first) (I.left input.old) (I.left input.new) (I.ended input.new) (O.held output.old) (O.held output.new) result }
     ensures read { InputFaults I.left I.faults input.old input.new result }
     ensures write { OutputFaults O.held O.faults output.old output.new result }
 {
-    let lines = match skipped_text(alloc, first.faults.as_slice()) {
-        Ok(lines) => lines,
-        Err(NoMemory) => return ReplayEnd::NoMemory,
-    };
-    match write_all(output, lines.as_slice()) {
+    match write_skipped(alloc, &first, output) {
         Ok(()) => {}
-        Err(Failed) => return ReplayEnd::WriteFault,
+        Err(refused) => return refused.end(),
     }
     let telling = Telling::Answers(SentCounts::start(alloc));
     match Playback::start(alloc, limits, first, telling) {
@@ -72,11 +68,12 @@ pub fn replay<T: Tree, I: Source, O: Sink>(
     output: &mut O,
 ) -> ReplayEnd
     requires limits { AreAllowed limits }
-    requires free { IsFree O.allowed }
+    // Each prefix of what the first load skipped and of the answers of some legal history may be written.
+    requires may { MayReplay O.allowed (O.held output.old) (T.told tree.old) (option_copied root) }
 
     // What is written is what the first load skipped, and the text of the legal history that the bytes
     // read make, as far as the end says.
-    ensures run { ReplaysFrom (T.told tree.old) (option_copied root.entry) limits (T.faults tree.old) (T.faults tree.new) (I.left input.old) (I.left input.new) (I.ended input.new) (O.held output.old) (O.held output.new) result }
+    ensures run { ReplaysFrom (T.told tree.old) (option_copied root.entry) (whole limits) (T.faults tree.old) (T.faults tree.new) (I.left input.old) (I.left input.new) (I.ended input.new) (O.held output.old) (O.held output.new) result }
 
     // A fault of the outside is told exactly where the object counted it, by its last call.
     ensures read { InputFaults I.left I.faults input.old input.new result }

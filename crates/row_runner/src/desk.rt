@@ -8,8 +8,8 @@ use crate::words::words;
 use authority_desk::Desk;
 use authority_model::{Event, Output};
 use pk_types::{NoMemory, cut, lines};
-use scenario_run::ScenarioRun;
-use scenario_text::{Step, answer_text, read_line};
+use scenario_run::{NoFile, ScenarioRun};
+use scenario_text::{Step, read_line};
 use std::alloc::Global;
 
 /// The greatest moment: 2^62.
@@ -18,7 +18,7 @@ const LAST_MOMENT: u64 = 4_611_686_018_427_387_904;
 /// A desk, the drafts of its loads, and the lines that it answered.
 #[derive(Drop)]
 struct DeskRun {
-    drafts: ScenarioRun,
+    drafts: ScenarioRun<NoFile>,
     desk: Box<Desk>,
     moment: u64,
     answers: Vec<u8>,
@@ -64,7 +64,7 @@ impl DeskRun {
     }
 
     fn add_output(&mut self, row: &mut Row, output: &Output, serial: u32) {
-        match answer_text(row.alloc, output, self.drafts.history(), serial) {
+        match self.drafts.journal().answer(row.alloc, output, serial) {
             Ok(line) => self.add(row, line.as_slice()),
             Err(_) => row.mark(Wrong::NoMemory),
         }

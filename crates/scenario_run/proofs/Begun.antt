@@ -1,5 +1,6 @@
--- The first load of a scenario, and the last entry of its journal.
-use Rattle.std.proofs.Common.{◌≡◌, ◌<◌, ◌+◌, ◌-◌, ◌==◌, false, zero, suc, slice_get, [], ◌∷◌, ℕ, List, Option, Some, refl, sym, ◌∙◌, ap, subst, length, get_or, arith}
+-- The first load of a scenario, and the last entry of a journal that is kept whole.
+use Rattle.std.proofs.Common.{◌≡◌, ◌<◌, ◌+◌, ◌-◌, ◌==◌, false, slice_get, [], ◌∷◌, ℕ, List, Option, Some, refl, sym, ◌∙◌, ap, subst, length, get_or, arith}
+use Rattle.std.proofs.lemmas.Bool.Decides.{nat_tests}
 use Rattle.std.proofs.lemmas.List.{get_or_default}
 use Rattle.std.proofs.lemmas.Option.{get_or_from_slice_get}
 use Rattle.authority_model.specs.declared.journal.Entry.{Entry}
@@ -8,9 +9,10 @@ use Rattle.authority_model.specs.declared.journal.Item.{Item}
 use Rattle.authority_model.specs.declared.load.Loaded.{Loaded}
 use Rattle.authority_model.specs.Items.{items_of, before}
 use Rattle.authority_model.proofs.Pairing.{before_next, before_end}
-use Rattle.authority_core.specs.Journal.{Journal}
+use Rattle.scenario_run.specs.Journals.{is_first}
+use Rattle.scenario_run.specs.Room.{Keeping}
 use Rattle.scenario_run.specs.Scene.{Scene, first_load}
-use Rattle.scenario_run.specs.ScenarioRuns.{last_outputs}
+use Rattle.scenario_run.specs.Text.{last_outputs}
 use Rattle.scenario_run.proofs.Entering.{seen}
 
 -- the newest item is that of the last entry
@@ -29,24 +31,24 @@ last_is h e entries same got =
     let found : slice_get h.entries (length h.entries - 1) ≡ Some e = ap (λ (es : List Entry). slice_get es (length es - 1)) (sym same) ∙ sym got in
     let p = last_item h e (some_got h.entries e found) (sym (get_or_from_slice_get h.entries (length h.entries - 1) e e found)) in sym (ap last_outputs p.1)
 
--- where there is an item, nothing is loaded
-none_to_load : (s : Scene) (past : List Item) (i : Item) (rest : List Item) → past ≡ i ∷ rest → first_load s past ≡ []
-none_to_load s [] i rest e = absurd (cc)
-none_to_load s (j ∷ past) i rest e = refl
+-- a history without an entry has no item, and any other has one
+first_item : (items : List Item) (i : Item) (rest : List Item) → items ≡ i ∷ rest → is_first items ≡ false
+first_item items i rest e = ap is_first e
 
-begun_by : (s : Scene) (h : History) (es : List Entry) → es ≡ h.entries → 0 < length h.entries → first_load s (items_of h) ≡ []
-begun_by s h [] e some = absurd (omega (arith, some, ap length e))
-begun_by s h (x ∷ es) e some =
+pub first_of : (h : History) (es : List Entry) → es ≡ h.entries → (length es == 0) ≡ is_first (items_of h)
+first_of h [] e = ap (λ (x : List Entry). is_first (items_of (record { entries = x; loads = h.loads }))) e
+first_of h (x ∷ es) e =
+    let some : 0 < length h.entries = subst (λ (ys : List Entry). 0 < length ys) e (omega arith) in
     let below : length h.entries - 1 < length h.entries = omega (arith, some) in
     let p = last_item h (get_or h.entries (length h.entries - 1) x) some (get_or_default h.entries (length h.entries - 1) x (get_or h.entries (length h.entries - 1) x) below) in
-    none_to_load s (items_of h) _ _ p.1
+    let many : (length (x ∷ es) == 0) ≡ false = grind (arith, nat_tests) in
+    many ∙ sym (first_item (items_of h) _ _ p.1)
 
-some_of : (n : ℕ) → false ≡ (n == 0) → 0 < n
-some_of zero e = absurd (cc)
-some_of (suc n) e = omega arith
+-- where there is an item, nothing is loaded
+none_to_load : (s : Scene) (past : List Item) → false ≡ is_first past → first_load s past ≡ []
+none_to_load s [] e = absurd (cc)
+none_to_load s (i ∷ past) e = refl
 
 -- after an entry nothing is loaded
-pub begun_before : (s : Scene) (j : Journal) (draft : Loaded) (moment : ℕ) (entries : History) → seen j draft moment ≡ s → entries ≡ j.history → false ≡ (length entries.entries == 0) → first_load s s.past ≡ []
-begun_before s j draft moment entries is same some =
-    let more : 0 < length j.history.entries = some_of (length j.history.entries) (some ∙ ap (λ (x : History). length x.entries == 0) same) in
-    subst (λ (t : Scene). first_load t t.past ≡ []) is (begun_by (seen j draft moment) j.history j.history.entries refl more)
+pub begun_before : (s : Scene) (keeping : Keeping) (draft : Loaded) (moment : ℕ) (past : List Item) → seen keeping draft moment past ≡ s → false ≡ is_first past → first_load s s.past ≡ []
+begun_before s keeping draft moment past is some = subst (λ (t : Scene). first_load t t.past ≡ []) is (none_to_load (seen keeping draft moment past) past some)

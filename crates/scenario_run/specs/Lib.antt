@@ -1,5 +1,11 @@
 pub mod Rows
 pub mod Drafts
+pub mod Room
+pub mod Journals
+pub mod Counting
+pub mod Cuts
+pub mod Recorded
+pub mod Refusals
 pub mod Scene
 pub mod ScenarioRuns
 pub mod Text

@@ -1,14 +1,14 @@
 -- What a line did to the items of a scenario.
-use Rattle.std.specs.Prelude.{◌≡◌, ℕ, List, [], ◌∷◌, Some, Result, Ok, Err}
+use Rattle.std.specs.Prelude.{◌≡◌, ℕ, List, Some, Result, Ok, Err}
 use Rattle.authority_model.specs.declared.journal.Item.{Item}
-use Rattle.authority_model.specs.declared.message.Output.{Output}
 use Rattle.authority_model.specs.Legal.{Legal}
 use Rattle.scenario_run.specs.declared.scenario.LineEffect.{LineEffect}
 use Rattle.scenario_run.specs.declared.scenario.LineEffect.TheVariants as taken
 use Rattle.scenario_run.specs.declared.scenario.LineStop.{LineStop}
 use Rattle.scenario_run.specs.declared.scenario.LineStop.TheVariants as stop
-use Rattle.scenario_run.specs.declared.scenario.Refused.{Refused}
-use Rattle.scenario_run.specs.declared.scenario.Refused.TheVariants as refused
+use Rattle.scenario_run.specs.declared.journal.Refused.{Refused}
+use Rattle.scenario_run.specs.declared.journal.Refused.TheVariants as refused
+use Rattle.scenario_run.specs.Room.{IsInSegments}
 use Rattle.scenario_run.specs.Scene.{Outcome, Scene}
 use Rattle.scenario_run.specs.Text.{IsEntered, text_of}
 use Rattle.scenario_text.specs.declared.fault.LineKind.{LineKind}
@@ -25,9 +25,10 @@ pub record IsFilled (old new : Scene) (entries bytes : ℕ) (due : Outcome) : Ty
   pub text : text_of new.past ≡ text_of old.past
   pub legal : Legal new.past
 
--- the journal was full; want of memory is free
+-- the journal was full, or is in segments and its file failed; want of memory is free
 abbrev pub IsRefused : Scene → Scene → Outcome → Refused → Type 0
 IsRefused old new due (refused.JournalFull entries bytes) = IsFilled old new entries bytes due
+IsRefused old new due refused.SegmentFault = IsInSegments old.keeping
 IsRefused old new due refused.NoMemory = Unit {0}
 
 -- the journal was full where an outcome was due
@@ -35,22 +36,20 @@ abbrev pub IsFilledLine : Scene → Scene → ℕ → ℕ → Result Outcome Lin
 IsFilledLine old new entries bytes (Ok due) = IsFilled old new entries bytes due
 IsFilledLine old new entries bytes (Err kind) = ⊥
 
--- a line stopped the run: by the fault that is due, or since the journal was full; want of memory is free
+-- a line stopped the run: by the fault that is due, since the journal was full, or since it is in segments and its file failed; want of memory is free
 abbrev pub IsStop : Scene → Scene → Result Outcome LineKind → LineStop → Type 0
 IsStop old new due (stop.Fault fault) = IsFaultOf fault.kind due
 IsStop old new due (stop.JournalFull entries bytes) = IsFilledLine old new entries bytes due
+IsStop old new due stop.SegmentFault = IsInSegments old.keeping
 
 -- how this stops the run at a line
 abbrev pub stop_at : ℕ → Refused → LineStop
 stop_at line (refused.JournalFull entries bytes) = stop.JournalFull entries bytes
+stop_at line refused.SegmentFault = stop.SegmentFault
 stop_at line refused.NoMemory = stop.Fault (record { line = line; kind = LineKind.NoMemory })
 
 -- a fault has the number of the line
 abbrev pub IsAt : ℕ → LineStop → Type 0
 IsAt line (stop.Fault fault) = fault.line ≡ line
 IsAt line (stop.JournalFull entries bytes) = Unit {0}
-
--- the outputs of the newest item
-abbrev pub last_outputs : List Item → List Output
-last_outputs [] = []
-last_outputs (i ∷ past) = i.entry.outputs
+IsAt line stop.SegmentFault = Unit {0}

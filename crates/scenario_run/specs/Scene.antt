@@ -1,10 +1,9 @@
 -- Where a scenario stands, and what a line makes of it.
-use Rattle.std.specs.Prelude.{ℕ, ◌∷◌, ◌++◌, List, [], Option, Some, None, Result, Ok}
+use Rattle.std.specs.Prelude.{ℕ, ◌∷◌, ◌++◌, List, [], Option, None, Result, Ok}
 use Rattle.authority_model.specs.declared.event.Event.{Event}
 use Rattle.authority_model.specs.declared.journal.Item.{Item}
-use Rattle.authority_model.specs.declared.journal.Limits.{Limits}
 use Rattle.authority_model.specs.declared.load.Loaded.{Loaded}
-use Rattle.authority_model.specs.Entering.{Fullness, Reached, all_entered}
+use Rattle.authority_model.specs.Entering.{Fullness, Reached}
 use Rattle.authority_model.specs.Given.{Given, event_given, load_given}
 use Rattle.scenario_text.specs.declared.fault.LineKind.{LineKind}
 use Rattle.scenario_text.specs.declared.step.Step.{Step}
@@ -12,17 +11,18 @@ use Rattle.scenario_text.specs.declared.step.Step.TheVariants as step
 use Rattle.scenario_text.specs.Faults.{◌>>=◌}
 use Rattle.scenario_text.specs.Lines.{step_of}
 use Rattle.scenario_run.specs.Drafts.{drafted}
+use Rattle.scenario_run.specs.Room.{Keeping, all_entered}
 
--- How much the journal may hold, the draft of the next load, the moment of the next event, and the items so far, the newest first.
+-- How the journal is kept, the draft of the next load, the moment of the next event, and the items so far, the newest first.
 pub record Scene : Type 0 where
-  pub limits : Limits
+  pub keeping : Keeping
   pub draft : Loaded
   pub moment : ℕ
   pub past : List Item
 
 -- this draft, moment 0 and no item
-abbrev pub start : Limits → Loaded → Scene
-start limits draft = record { limits = limits; draft = draft; moment = 0; past = [] }
+abbrev pub start : Keeping → Loaded → Scene
+start keeping draft = record { keeping = keeping; draft = draft; moment = 0; past = [] }
 
 -- the scene with this draft
 abbrev pub with_draft : Scene → Loaded → Scene
@@ -64,7 +64,7 @@ with_reached scene there = record { scene = with_past scene there.past; full = t
 
 -- where a scene leads when this is handed in
 abbrev pub handed_in : Scene → List Given → Outcome
-handed_in scene given = with_reached scene (all_entered scene.limits scene.past given)
+handed_in scene given = with_reached scene (all_entered scene.keeping scene.past given)
 
 -- what a step makes of a scene
 abbrev pub run_step : Scene → Step → Result Outcome LineKind

@@ -7,6 +7,11 @@ use Rattle.authority_model.specs.declared.message.Output.{Output}
 use Rattle.authority_model.specs.Items.{sent}
 use Rattle.scenario_text.specs.Answers.{message_line}
 
+-- the outputs of the newest item
+abbrev pub last_outputs : List Item → List Output
+last_outputs [] = []
+last_outputs (i ∷ past) = i.entry.outputs
+
 -- the loads of the items, the oldest first
 abbrev pub loads_of : List Item → List Loaded
 loads_of [] = []

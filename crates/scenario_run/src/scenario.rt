@@ -1,16 +1,16 @@
-// A run of scenario lines: the draft, and the authority that is asked.
+// A run of scenario lines: the draft, and the journal that they are entered into.
 ghost use Rattle.std.specs.Prelude.{◌≡◌, ◌≤◌, ◌∷◌, [], Ok, IfOk, OnOk, IfErr};
 ghost use Rattle.authority_model.specs.Given.{IsStepped, event_given};
-ghost use Rattle.authority_model.specs.Items.{items_of, sent};
-ghost use Rattle.authority_model.specs.Legal.{IsLegal, Legal};
-ghost use Rattle.scenario_run.specs.Text.{IsEntered, loads_of, text_of};
+ghost use Rattle.authority_model.specs.Items.{sent};
+ghost use Rattle.scenario_run.specs.Text.{IsEntered, text_of};
 ghost use Rattle.scenario_text.specs.Faults.{IsFaultOf};
 ghost use Rattle.scenario_text.specs.Runs.{IsRunnable};
 
 use crate::draft::change;
-use authority_core::{Authority, Limits, LoadStepRefused, StepRefused};
-use authority_model::{Event, History, Loaded, Output};
-use pk_types::{NoMemory, TryCopy};
+use crate::journal::{Journal, Refused};
+use authority_model::{Event, Loaded};
+use pk_outside::Sink;
+use pk_types::TryCopy;
 use scenario_text::{LineFault, LineKind, Step, read_line};
 use std::alloc::Global;
 use std::marker::Model;
@@ -32,26 +32,8 @@ pub enum LineStop {
     /// A further entry was due, and the journal had reached a limit. It has this many entries and
     /// counted bytes.
     JournalFull { entries: u64, bytes: u64 },
-}
-
-/// Why nothing was entered.
-#[derive(Clone, Copy, Debug, PartialEq, Eq)]
-enum Refused {
-    /// The journal had reached a limit. It has this many entries and counted bytes.
-    JournalFull { entries: u64, bytes: u64 },
-    /// Memory was refused.
-    NoMemory,
-}
-
-impl From<NoMemory> for Refused {
-    ghost use Rattle.std.specs.Prelude.{◌≡◌};
-    ghost use Rattle.scenario_run.specs.declared.scenario.Refused.TheVariants as refused;
-
-    ghost from_gives = { λ _ given. given ≡ refused.NoMemory };
-
-    fn from(_: NoMemory) -> Self {
-        Refused::NoMemory
-    }
+    /// The file of the segments failed, and counted it.
+    SegmentFault,
 }
 
 impl Refused {
@@ -63,6 +45,7 @@ impl Refused {
     {
         match self {
             Refused::JournalFull { entries, bytes } => LineStop::JournalFull { entries, bytes },
+            Refused::SegmentFault => LineStop::SegmentFault,
             Refused::NoMemory => LineStop::Fault(LineFault {
                 line,
                 kind: LineKind::NoMemory,
@@ -71,88 +54,81 @@ impl Refused {
     }
 }
 
-/// Where a scenario stands: the draft of the next load, the moment of the next event, and the
-/// authority with its journal. Contracts see it as a scene.
+/// Where a scenario stands: the draft of the next load, the moment of the next event, and the journal.
+/// Contracts see it as a scene.
 #[derive(Drop)]
-pub struct ScenarioRun {
+pub struct ScenarioRun<F: Sink> {
     draft: Loaded,
     moment: u64,
-    authority: Authority,
+    journal: Journal<F>,
 }
 
-impl Model for ScenarioRun {
+impl<F: Sink> Model for ScenarioRun<F> {
     ghost use Rattle.std.specs.Prelude.{◌≤◌, ◌^◌};
-    ghost use Rattle.authority_model.specs.Items.{items_of};
+    ghost use Rattle.authority_model.specs.Legal.{Legal};
     ghost use Rattle.scenario_run.specs.Scene.{Scene};
 
     ghost Value = { Scene };
 
-    ghost view = { λ s. record { limits = s.authority.limits; draft = s.draft; moment = s.moment; past = items_of s.authority.history } };
+    ghost view = { λ s. record { keeping = s.journal.keeping; draft = s.draft; moment = s.moment; past = s.journal.past } };
 
-    ghost invariant = { λ s. s.moment ≤ 2 ^ 62 };
+    ghost invariant = { λ s. (s.moment ≤ 2 ^ 62) × Legal s.journal.past };
 }
 
-impl ScenarioRun {
-    ghost use Rattle.authority_model.specs.Entering.{AreAllowed};
+impl<F: Sink> ScenarioRun<F> {
+    ghost use Rattle.authority_model.specs.Legal.{Legal};
     ghost use Rattle.scenario_run.specs.Scene.{start, reached, handed_in, load_of, first_load, given_for, run_step, run_line};
-    ghost use Rattle.scenario_run.specs.ScenarioRuns.{EffectIs, IsAt, IsRefused, IsStop, last_outputs};
+    ghost use Rattle.scenario_run.specs.ScenarioRuns.{EffectIs, IsAt, IsRefused, IsStop};
 
-    /// A run that begins with this draft, at moment 0, over an authority with an empty journal.
-    pub fn start(alloc: Global, limits: Limits, draft: Loaded) -> Result<ScenarioRun, NoMemory>
-        requires limits { AreAllowed limits }
-        ensures start { IfOk result (λ scenario. scenario ≡ start limits draft) }
+    /// A run that begins with this draft, at moment 0, over a journal without an item.
+    pub fn start(journal: Journal<F>, draft: Loaded) -> ScenarioRun<F>
+        requires none { journal.past ≡ [] }
+        ensures start { result ≡ start journal.keeping draft }
     {
-        let authority = Authority::start(alloc, limits)?;
-        Ok(ScenarioRun {
+        ScenarioRun {
             draft,
             moment: 0,
-            authority,
-        })
-    }
-
-    /// The journal, which is legal.
-    pub fn history(&self) -> &History
-        ensures items { items_of result.now ≡ self.now.past }
-        ensures loads { result.now.loads ≡ loads_of self.now.past }
-        ensures legal { IsLegal result.now }
-    {
-        self.authority.history()
-    }
-
-    /// The outputs of the last entry.
-    pub fn last_outputs(&self) -> &[Output]
-        ensures outputs { result.now ≡ last_outputs self.now.past }
-    {
-        match self.authority.history().entries.as_slice().last() {
-            Some(entry) => entry.outputs.as_slice(),
-            None => &[],
+            journal,
         }
+    }
+
+    /// The journal, whose items are legal.
+    pub fn journal(&self) -> &Journal<F>
+        ensures past { result.now.past ≡ self.now.past }
+        ensures kept { result.now.keeping ≡ self.now.keeping }
+        ensures legal { Legal self.now.past }
+    {
+        &self.journal
+    }
+
+    /// The journal, once the run has ended.
+    pub fn into_journal(self) -> Journal<F>
+        ensures past { result.past ≡ self.past }
+        ensures kept { result.keeping ≡ self.keeping }
+    {
+        self.journal
     }
 
     /// Loads the draft.
     fn load_draft(&mut self) -> Result<(), Refused>
+        ensures kept { self.new.keeping ≡ self.old.keeping }
         ensures ok { OnOk result (handed_in self.old (load_of self.old ∷ []) ≡ reached self.new) }
         ensures entered { OnOk result (IsEntered self.old.past self.new.past) }
         ensures refused { IfErr result (IsRefused self.old self.new (handed_in self.old (load_of self.old ∷ []))) }
     {
         let draft = self.draft.try_copy()?;
-        match self.authority.load(0, self.moment, draft) {
-            Ok(_) => return Ok(()),
-            Err(LoadStepRefused::JournalFull { entries, bytes, .. }) => {
-                return Err(Refused::JournalFull { entries, bytes });
-            }
-            Err(LoadStepRefused::NoMemory { .. }) => return Err(Refused::NoMemory),
-        }
+        self.journal.enter_load(self.moment, draft)
     }
 
     /// Loads the draft, unless an event came before.
     fn begin(&mut self) -> Result<(), Refused>
+        ensures kept { self.new.keeping ≡ self.old.keeping }
         ensures ok { OnOk result (handed_in self.old (first_load self.old self.old.past) ≡ reached self.new) }
         ensures text { OnOk result (text_of self.new.past ≡ text_of self.old.past) }
         ensures counts { OnOk result (sent self.new.past ≡ sent self.old.past) }
         ensures refused { IfErr result (IsRefused self.old self.new (handed_in self.old (first_load self.old self.old.past))) }
     {
-        if !self.authority.history().entries.is_empty() {
+        if !self.journal.is_empty() {
             return Ok(());
         }
         self.load_draft()
@@ -161,22 +137,18 @@ impl ScenarioRun {
     /// Submits an event.
     fn step(&mut self, caller: u32, event: Event) -> Result<(), Refused>
         requires { IsStepped event }
+        ensures kept { self.new.keeping ≡ self.old.keeping }
         ensures ok { OnOk result (handed_in self.old (event_given caller self.old.moment 0 event ∷ []) ≡ reached self.new) }
         ensures entered { OnOk result (IsEntered self.old.past self.new.past) }
         ensures refused { IfErr result (IsRefused self.old self.new (handed_in self.old (event_given caller self.old.moment 0 event ∷ []))) }
     {
-        match self.authority.step(caller, self.moment, 0, event) {
-            Ok(_) => return Ok(()),
-            Err(StepRefused::JournalFull { entries, bytes, .. }) => {
-                return Err(Refused::JournalFull { entries, bytes });
-            }
-            Err(StepRefused::NoMemory { .. }) => return Err(Refused::NoMemory),
-        }
+        self.journal.enter(caller, self.moment, event)
     }
 
     /// Submits an event. The draft is loaded first, if no event came before.
     fn act(&mut self, caller: u32, event: Event) -> Result<(), Refused>
         requires { IsStepped event }
+        ensures kept { self.new.keeping ≡ self.old.keeping }
         ensures ok { OnOk result (handed_in self.old (given_for self.old caller event) ≡ reached self.new) }
         ensures entered { OnOk result (IsEntered self.old.past self.new.past) }
         ensures refused { IfErr result (IsRefused self.old self.new (handed_in self.old (given_for self.old caller event))) }
@@ -188,6 +160,7 @@ impl ScenarioRun {
     /// Does what the step of a line says.
     fn take_step(&mut self, alloc: Global, step: Step, line: u64) -> Result<LineEffect, LineStop>
         requires { IsRunnable step }
+        ensures kept { self.new.keeping ≡ self.old.keeping }
         ensures ok { OnOk result (run_step self.old step ≡ Ok (reached self.new)) }
         ensures taken { IfOk result (λ taken. EffectIs taken self.old.past self.new.past) }
         ensures stop { IfErr result (IsStop self.old self.new (run_step self.old step)) }
@@ -218,13 +191,15 @@ impl ScenarioRun {
     ///
     /// # Errors
     /// `Fault` with the first fault of the line, or `NoMemory`; `JournalFull` exactly where the line is
-    /// in the grammar and the journal has reached a limit before an entry that the line makes.
+    /// in the grammar and the journal has reached a limit before an entry that the line makes; `SegmentFault`
+    /// only where the file of its segments failed.
     pub fn take_line(
         &mut self,
         alloc: Global,
         line: &[u8],
         number: u64,
     ) -> Result<LineEffect, LineStop>
+        ensures kept { self.new.keeping ≡ self.old.keeping }
         ensures ok { OnOk result (run_line self.old line.now ≡ Ok (reached self.new)) }
         ensures taken { IfOk result (λ taken. EffectIs taken self.old.past self.new.past) }
         ensures stop { IfErr result (IsStop self.old self.new (run_line self.old line.now)) }

@@ -9,3 +9,6 @@ pub returns-in-Err : goal.returns-in-Err
 returns-in-Err g c = record {
   served = rw c.end_of_refused.ensures (refused_serves c.args.plan.now _ c.in-Err.refused c.in-Err.ensures.load c.in-Err.ensures.fault (record { station = refl; station_faults = refl; held = refl }));
 }
+
+pub serve_loaded-requires-clause-may : goal.serve_loaded-requires-clause-may
+serve_loaded-requires-clause-may g c κs within = c.requires.may c.in-Ok.first c.in-Ok.ensures.load

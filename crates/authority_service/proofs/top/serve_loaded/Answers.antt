@@ -6,6 +6,7 @@ use Rattle.authority_service.specs.Lines.{opening_text}
 use Rattle.authority_service.specs.declared.top.Unbegun.{Unbegun}
 use Rattle.authority_service.specs.Begun.{HasRun, UnbegunCause}
 use Rattle.authority_service.proofs.Closing.{doors_none}
+use Rattle.authority_service.proofs.Promised.{may_close, may_open}
 use Rattle.authority_service.proofs.Serving.{serves_told, unbegun_short}
 use Rattle.authority_service.proofs.top.serve_loaded.Goals as goal
 
@@ -57,3 +58,11 @@ returns-in-Err-DoorFault g c = record {
         inl (unbegun_short c.args.plan.now c.args.first _ _ _ refl refl short is_first (inl got)),
       ));
 }
+
+pub write_all-requires-clause-may : goal.write_all-requires-clause-may
+write_all-requires-clause-may g c κs within = may_open g.O.Sink.allowed _ c.args.plan.now c.args.first c.as_slice.result.now (c.as_slice.ensures.items ∙ c.in-Ok.ensures.text) c.requires.may
+
+pub tell-requires-clause-may : goal.tell-requires-clause-may
+tell-requires-clause-may g c κs within =
+    may_close g.O.Sink.allowed (g.O.Sink.held c.args.output.now) _ c.args.plan.now c.args.first c.as_slice.result.now _ c.in-Ok-run_named.ran.authority.history c.in-Ok-run_named.ran.slots.items c.in-Ok-run_named.ran.cause
+    (c.as_slice.ensures.items ∙ c.in-Ok.ensures.text) c.in-Ok-write_all.ensures.ok c.in-Ok-run_named.ensures.ran c.requires.may

@@ -5,6 +5,7 @@ use Rattle.pipe_run.specs.Answered.{fresh}
 use Rattle.pipe_run.specs.Stages.{Start}
 use Rattle.pipe_run.specs.Supplies.{supply}
 use Rattle.pipe_run.proofs.Exits.{halted, no_memory}
+use Rattle.pipe_run.proofs.Promised.{may_fresh}
 use Rattle.pipe_run.proofs.Serving.{outputs_later}
 use Rattle.pipe_run.proofs.Starting.{first_stage}
 use Rattle.pipe_run.proofs.running.run_pipe.Goals as goal
@@ -28,3 +29,9 @@ returns-clause-run g c =
     rw c.end.ensures.end
     (halted s _ [] [] c.in-Err-open.stopped [] [] [] _ _ (g.I.Source.ended c.args.input.now) (c.in-Err-open.ensures.opened s (g.T.Tree.faults c.args.tree.now) refl refl (first_stage s c.in-Ok.served c.in-Ok.ensures.fresh)) refl refl
     (Gave-none (g.I.Source.left c.args.input.now)))
+
+pub open-requires-clause-may : goal.open-requires-clause-may
+open-requires-clause-may g c κs within = may_fresh _ _ c.in-Ok.served c.args.limits c.in-Ok.ensures.fresh c.requires.may
+
+pub serve-requires-clause-may : goal.serve-requires-clause-may
+serve-requires-clause-may g c κs within = c.in-Ok-open.ensures.may

@@ -12,6 +12,7 @@ use Rattle.pipe_run.proofs.Following.{left_fewer, next_message}
 use Rattle.pipe_run.proofs.Serving.{answered_on, more_read, out_on, still_partial, stopped_writes}
 use Rattle.pipe_run.proofs.Written.{fails_later}
 use Rattle.pipe_run.proofs.running.serve.Goals.{in-Ok-write_out, in-Err-write_out}
+use Rattle.pipe_run.proofs.Promised.{may_now, may_out}
 use Rattle.pipe_run.proofs.running.serve.Goals as goal
 
 pub returns-in-Err-clause-run : goal.returns-in-Err-clause-run
@@ -27,6 +28,7 @@ messages-preserved-in-Ok-take_message g c = let asks : Asks c.bytes.result.now c
   told = c.in-Ok-take_message.ensures.same ∙ c.messages.invariant.told;
   read = c.messages.invariant.read;
   wrote = c.in-Ok-take_message.ensures.faults ∙ c.messages.invariant.wrote;
+  may = c.in-Ok-take_message.ensures.may;
 }
 
 pub returns-in-Err-take_message-clause-run : goal.returns-in-Err-take_message-clause-run
@@ -66,6 +68,7 @@ messages-preserved g c =
       told = c.messages.invariant.told;
       read = c.in-There.ensures.faults ∙ c.messages.invariant.read;
       wrote = c.in_default.ensures.faults ∙ c.messages.invariant.wrote;
+      may = may_out _ _ _ _ _ c.in_default.ensures.written c.messages.invariant.may;
     }
 
 pub returns-in-End-clause-run : goal.returns-in-End-clause-run
@@ -106,3 +109,12 @@ messages-smaller-in-Ok-take_message g c =
     let fewer : length (drop c.in-Whole.used c.messages.buffer) < length c.messages.buffer = left_fewer c.messages.buffer c.in-Whole.used asks.message form in
     let left = ap (λ (b : List ℕ). length b) c.take.ensures.taken in
     omega (arith, fewer, left)
+
+pub write_out-requires-clause-may : goal.write_out-requires-clause-may
+write_out-requires-clause-may g c κs within = may_now _ _ _ c.messages.invariant.may
+
+pub write_out-requires-in-Partial-clause-may : goal.write_out-requires-in-Partial-clause-may
+write_out-requires-in-Partial-clause-may g c κs within = may_now _ _ _ c.messages.invariant.may
+
+pub end_of_input-requires-clause-may : goal.end_of_input-requires-clause-may
+end_of_input-requires-clause-may g c κs within = may_out _ _ _ _ _ c.in_default.ensures.written c.messages.invariant.may

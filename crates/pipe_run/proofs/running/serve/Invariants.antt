@@ -3,6 +3,7 @@ use Rattle.std.proofs.Common.{◌≡◌, ◌+◌, ◌*◌, [], length, true}
 use Rattle.authority_model.specs.Items.{sent}
 use Rattle.pipe_run.specs.declared.served.TheConstants.{CONNECTION}
 use Rattle.pipe_run.specs.Handed.{awaits_message}
+use Rattle.pipe_run.specs.Promises.{MayGoOn}
 use Rattle.pipe_run.specs.Stages.{Running, Stage, Start, standing}
 use Rattle.pipe_run.specs.Supplies.{supply}
 use Rattle.pipe_run.proofs.running.serve.Given as goal
@@ -17,6 +18,7 @@ invariant-messages g l = record {
   told : g.T.Tree.told l.tree ≡ g.T.Tree.told l.fn.tree;
   read : g.I.Source.faults l.input ≡ g.I.Source.faults l.fn.input;
   wrote : g.O.Sink.faults l.output ≡ g.O.Sink.faults l.fn.output;
+  may : MayGoOn g.O.Sink.allowed (g.O.Sink.held l.output) l.served;
 }
 
 abbrev pub decreases-messages : goal.decreases-messages

@@ -8,6 +8,7 @@ use Rattle.pipe_run.specs.Handed.{awaits_load}
 use Rattle.pipe_run.proofs.Staging.{staged_out, unwritten}
 use Rattle.pipe_run.proofs.Supplying.{took_one}
 use Rattle.pipe_run.proofs.Turns.{loaded_handed, loaded_waits, turned_refused}
+use Rattle.pipe_run.proofs.Promised.{may_answered, may_now, may_out}
 use Rattle.pipe_run.proofs.turning.load_again.Goals as goal
 
 pub returns-in_err-make_room-clause-turned : goal.returns-in_err-make_room-clause-turned
@@ -26,3 +27,10 @@ returns-clause-turned g c salt s messages told root st =
 pub returns-clause-waits : goal.returns-clause-waits
 returns-clause-waits g c =
     loaded_waits c.make_room.new.self c.answer.new.self c.now-moment.result c.load-gave.result _ c.answer.result c.submission_of.ensures.given (ap awaits_load c.in_ok-make_room.ensures.written.past ∙ c.requires.asked) c.answer.ensures.answers
+
+pub make_room-requires-clause-may : goal.make_room-requires-clause-may
+make_room-requires-clause-may g c κs within = may_now _ _ _ c.requires.may
+
+pub returns-clause-may : goal.returns-clause-may
+returns-clause-may g c =
+    may_answered _ _ c.make_room.new.self c.answer.new.self _ c.answer.result c.answer.ensures.answers c.answer.ensures.legal (may_out _ _ _ c.args.served.now c.make_room.new.self c.in_ok-make_room.ensures.written c.requires.may)

@@ -9,6 +9,7 @@ use Rattle.pipe_run.proofs.Staging.{staged_out, unwritten}
 use Rattle.pipe_run.proofs.Supplying.{took_one}
 use Rattle.pipe_run.proofs.Turns.{connect_handed, first_handed, turned_refused}
 use Rattle.pipe_run.proofs.Written.{faults_refused}
+use Rattle.pipe_run.proofs.Promised.{may_answer, may_answered, may_now, may_out}
 use Rattle.pipe_run.proofs.turning.open.Goals as goal
 
 pub returns-in_err-make_room-clause-opened : goal.returns-in_err-make_room-clause-opened
@@ -46,3 +47,16 @@ returns-clause-opened g c s faults uid first st =
     (c.in_ok-make_room.ensures.written.past ∙ c.requires.first) (took_one _ _ _ _ _ c.now-moment.ensures.next c.now-moment.ensures.gave) refl refl refl c.in_ok-make_room.ensures.ready
     (staged_out s c.args.served.now c.make_room.new.self _ _ _ _ _ [] c.in_ok-make_room.ensures.written st) c.in_ok-answer.ensures.answers c.in_ok-answer.ensures.legal))
     c.answer-2.ensures.answers c.answer-2.ensures.legal
+
+pub make_room-requires-clause-may : goal.make_room-requires-clause-may
+make_room-requires-clause-may g c κs within = may_now _ _ _ c.requires.may
+
+pub make_room-requires-2-clause-may : goal.make_room-requires-2-clause-may
+make_room-requires-2-clause-may g c κs within =
+    may_now _ _ _ (may_answer _ _ c.make_room.new.self c.answer.new.self _ c.in_ok-answer.ensures.answers c.in_ok-answer.ensures.legal (may_out _ _ _ c.args.served.now c.make_room.new.self c.in_ok-make_room.ensures.written c.requires.may))
+
+pub returns-clause-may : goal.returns-clause-may
+returns-clause-may g c =
+    may_answered _ _ c.make_room-2.new.self c.answer-2.new.self _ c.answer-2.result c.answer-2.ensures.answers c.answer-2.ensures.legal
+    (may_out _ _ _ c.answer.new.self c.make_room-2.new.self c.in_ok-make_room-2.ensures.written
+    (may_answer _ _ c.make_room.new.self c.answer.new.self _ c.in_ok-answer.ensures.answers c.in_ok-answer.ensures.legal (may_out _ _ _ c.args.served.now c.make_room.new.self c.in_ok-make_room.ensures.written c.requires.may)))

@@ -7,6 +7,7 @@ use Rattle.pipe_run.proofs.Staging.{staged_out, unwritten}
 use Rattle.pipe_run.proofs.Supplying.{took_one}
 use Rattle.pipe_run.proofs.Turns.{halted_with, message_handed, stage_with, turned_refused}
 use Rattle.pipe_run.proofs.Written.{faults_refused}
+use Rattle.pipe_run.proofs.Promised.{may_answer, may_now, may_out}
 use Rattle.pipe_run.proofs.turning.take_message.Goals as goal
 
 pub returns-in_err-make_room-clause-turned : goal.returns-in_err-make_room-clause-turned
@@ -47,3 +48,14 @@ returns-else-wants_load-clause-turned g c message is s messages told root st =
     message_handed s _ (standing c.answer.new.self (g.T.Tree.faults c.args.tree.now) (supply (g.C.Clock.left c.now-moment.new.self) (g.C.Clock.gave c.now-moment.new.self)) (supply (g.S.Salt.left c.word-salt.new.self) (g.S.Salt.gave c.word-salt.new.self)) (g.O.Sink.held c.make_room.new.output)) messages message c.now-moment.result c.word-salt.result c.args.event (Ok tt) is
     (ap awaits_message c.in_ok-make_room.ensures.written.past ∙ c.requires.waits) (took_one _ _ _ _ _ c.now-moment.ensures.next c.now-moment.ensures.gave) (took_one _ _ _ _ _ c.word-salt.ensures.next c.word-salt.ensures.gave) refl refl c.in_ok-make_room.ensures.ready
     (staged_out s c.args.served.now c.make_room.new.self _ _ _ _ _ messages c.in_ok-make_room.ensures.written st) c.in_ok-answer.ensures.answers c.in_ok-answer.ensures.legal
+
+pub make_room-requires-clause-may : goal.make_room-requires-clause-may
+make_room-requires-clause-may g c κs within = may_now _ _ _ c.requires.may
+
+pub load_again-requires-clause-may : goal.load_again-requires-clause-may
+load_again-requires-clause-may g c κs within =
+    may_answer _ _ c.make_room.new.self c.answer.new.self _ c.in_ok-answer.ensures.answers c.in_ok-answer.ensures.legal (may_out _ _ _ c.args.served.now c.make_room.new.self c.in_ok-make_room.ensures.written c.requires.may)
+
+pub returns-else-wants_load-clause-may : goal.returns-else-wants_load-clause-may
+returns-else-wants_load-clause-may g c =
+    may_answer _ _ c.make_room.new.self c.answer.new.self _ c.in_ok-answer.ensures.answers c.in_ok-answer.ensures.legal (may_out _ _ _ c.args.served.now c.make_room.new.self c.in_ok-make_room.ensures.written c.requires.may)

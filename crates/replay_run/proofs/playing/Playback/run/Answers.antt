@@ -3,17 +3,20 @@ use Rattle.std.proofs.Common.{arith, refl, ◌∙◌, ap, length, Err, Ok}
 use Rattle.replay_run.specs.Telling.{tells}
 use Rattle.replay_run.proofs.Exits.{at_first, go_on, stopped_gives, begins_line, begins_last, done_end, done_last, too_long, cut_off, no_memory, done_line, whole_end, whole_last}
 use Rattle.replay_run.proofs.Faults.{fails_later, stopped_reads, stopped_writes}
+use Rattle.replay_run.proofs.Promised.{may_line_on}
 use Rattle.replay_run.proofs.playing.Playback.run.Goals as goal
 
 pub lines-init : goal.lines-init
 lines-init g c =
     let laws = g.met.I.Source g.world.𝓛 g.world.𝓜 g.world.𝓡 ((λ s x. x), (λ x. x), (λ x. x), λ x. x) in record {
-      so_far = rw c.requires.begins.number (at_first _ _ _ _ _ c.requires.begins.reader c.requires.begins.none);
-      counted = rw c.requires.begins.none c.requires.counted;
+      so_far = rw c.requires.number (at_first _ _ _ _ _ c.requires.reader c.requires.none);
+      counted = rw c.requires.none c.requires.counted;
       same = refl;
       read = refl;
       wrote = refl;
-      count = omega (arith, laws.budget_bound c.args.input.now, ap length c.requires.begins.reader, c.requires.begins.number);
+      may = c.requires.may;
+      kept = refl;
+      count = omega (arith, laws.budget_bound c.args.input.now, ap length c.requires.reader, c.requires.number);
     }
 
 pub lines-preserved : goal.lines-preserved
@@ -25,6 +28,8 @@ lines-preserved g c = record {
   same = c.answer.ensures.same ∙ c.lines.invariant.same;
   read = c.in-Line.ensures.faults ∙ c.lines.invariant.read;
   wrote = c.in-Ok.ensures.faults ∙ c.lines.invariant.wrote;
+  may = may_line_on g.O.Sink.allowed (tells c.lines.self.telling) (tells c.answer.new.telling) c.lines.self.scenario c.answer.new.scenario _ _ _ c.answer.ensures.same c.in-Ok.ensures.done c.lines.invariant.may;
+  kept = c.answer.ensures.kept ∙ c.lines.invariant.kept;
   count = omega (arith, c.lines.invariant.count, c.in-Line.ensures.fewer refl);
 }
 
@@ -125,3 +130,9 @@ returns-in-Ok-answer-clause-whole g c =
     let t = c.in-Last.ensures.takes in
     λ is. whole_last c.lines.invariant.so_far _ _ _ t.0 c.next_line.new.self c.next_line.new.line.items _ t.1 t.2
     (done_line _ (tells c.args.self.now.telling) c.lines.self.scenario c.answer-in-Last.new.scenario _ _ (g.O.Sink.held c.lines.output) (g.O.Sink.held c.answer-in-Last.new.output) (Ok tt) c.lines.invariant.same c.deref-in-Last.ensures.value c.in-Ok-answer.ensures.done)
+
+pub answer-requires-clause-may : goal.answer-requires-clause-may
+answer-requires-clause-may g c κs within = c.lines.invariant.may
+
+pub answer-requires-in-Last-clause-may : goal.answer-requires-in-Last-clause-may
+answer-requires-in-Last-clause-may g c κs within = c.lines.invariant.may
