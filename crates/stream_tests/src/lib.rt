@@ -1,5 +1,6 @@
 //! Tests of the daemon's commands over objects in memory: streams and trees of which one call fails,
-//! pieces of a read and of a write, and which write comes before which read.
+//! pieces of a read and of a write, which write comes before which read, and sinks that allow only
+//! what a command may write.
 #![tactic(auto)]
 
 #[cfg(test)]
@@ -14,3 +15,5 @@ mod runs;
 mod statuses;
 #[cfg(test)]
 mod trees;
+#[cfg(test)]
+mod watched;
