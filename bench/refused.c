@@ -21,7 +21,8 @@
 #include <sys/syscall.h>
 #include <unistd.h>
 
-enum { BYTES = 65536, PLACES = BYTES / 8 - 2 };
+/* NEAR is how many words the frame above may be away. The kit's own function needs few. */
+enum { BYTES = 65536, PLACES = BYTES / 8 - 2, NEAR = 32 };
 
 struct report {
     _Atomic uint64_t asked, refused;
@@ -71,8 +72,16 @@ static void note(uint64_t place) {
     }
 }
 
-/* Whether an allocation that is asked for here is refused. The frame is that of malloc or realloc: the kit's own function that asks
-   there keeps a frame too, and behind that stands who asked it. */
+/* Who asks for memory. The frame is that of malloc or realloc. Mostly the kit's own function calls them; it keeps a frame too, and behind
+   that stands who asked it. Where the program's own code calls them, it is that, and what stands in its frame's place is any number. */
+static uintptr_t asker(void **frame) {
+    void **above = frame[0];
+    int is_frame = above > frame && above < frame + NEAR && (uintptr_t)above % sizeof *above == 0;
+    uintptr_t behind = is_frame ? (uintptr_t)above[1] : 0;
+    return behind >= code && behind < code_end ? behind : (uintptr_t)frame[1];
+}
+
+/* Whether an allocation that is asked for here is refused. */
 static int is_refused(void **frame) {
     uintptr_t asks = (uintptr_t)frame[1];
     if (asks < code || asks >= code_end)
@@ -82,7 +91,7 @@ static int is_refused(void **frame) {
     if (now != number)
         return 0;
     atomic_fetch_add(&report->refused, 1);
-    note((uintptr_t)((void **)frame[0])[1] - base);
+    note(asker(frame) - base);
     errno = ENOMEM;
     return 1;
 }
