@@ -1,3 +1,5 @@
 pub mod Unlisting
+pub mod Betweens
 pub mod Watching
+mod Resting
 mod Lookouts

@@ -3,9 +3,8 @@ use Rattle.std.proofs.Common.{◌≡◌, ◌≤◌, ℕ, Bool, true, false, List
 use Rattle.std.specs.Prelude.{max, nat_lt, not, if◌then◌else◌}
 use Rattle.std.proofs.lemmas.Bool.Decides.{nat_tests}
 use mathlib.Core.List.{IsPrefix}
-use Rattle.authority_model.specs.declared.event.Event.{Event}
 use Rattle.authority_model.specs.declared.journal.Item.{Item}
-use Rattle.connection_lookout.specs.Watching.{HasMet, IsOut, Looks, LooksAt, TookOut, Watch, has_ended, has_seen, watch}
+use Rattle.connection_lookout.specs.Watching.{HasMet, IsOut, Meets, TookOut, TookTurn, Watch, has_ended, has_seen, watch}
 use Rattle.history_lock.proofs.Growth.{learned_begins, learned_trans}
 use Rattle.history_lock.specs.Calls.{Learned}
 use Rattle.history_lock.specs.Causes.{known_or}
@@ -17,16 +16,11 @@ use Rattle.pk_outside.specs.declared.sights.Sighted.TheVariants as sighted
 use Rattle.pk_outside.specs.Causes.{RoseWhere}
 use Rattle.pk_outside.specs.Sightings.{GivesSighting, Look, Looked, SightCause}
 use Rattle.shared_authority.specs.Journals.{IsJournal, caller_of}
-use Rattle.sight_events.specs.Named.{named}
-
--- no look before an event that names no process
-pub no_look : (event : Event) (v : Watch) → named event ≡ None → Looks event (Some v) (Some v) false
-no_look event v none = subst (λ (n : Option (ℕ × ℕ)). LooksAt n v v false) (sym none) (refl, refl)
 
 -- one look
-pub one_look : (event : Event) (pid start : ℕ) (v w : Watch) (s : Sighted) (unlisted failed : Bool) → named event ≡ Some (pid, start) → GivesSighting v.left w.left s → Looked v.gave w.gave pid s → has_seen s ≡ not failed → TookOut unlisted pid start v.pass w.pass
-    → (unlisted ≡ true → has_ended start s ≡ true) → (has_ended start s ≡ true → IsOut v.pass.history pid start w.pass) → Looks event (Some v) (Some w) failed
-one_look event pid start v w s unlisted failed is left gave seen out ended gone = subst (λ (n : Option (ℕ × ℕ)). LooksAt n v w failed) (sym is) (record {
+pub one_look : (pid start : ℕ) (v w : Watch) (s : Sighted) (unlisted failed : Bool) → GivesSighting v.left w.left s → Looked v.gave w.gave pid s → has_seen s ≡ not failed → TookOut unlisted pid start v.pass w.pass
+    → (unlisted ≡ true → has_ended start s ≡ true) → (has_ended start s ≡ true → IsOut v.pass.history pid start w.pass) → TookTurn (pid, start) v w failed
+one_look pid start v w s unlisted failed left gave seen out ended gone = record {
   turn = record { pid = pid; start = start; sighted = s; unlisted = unlisted };
   process = refl;
   left = left;
@@ -35,7 +29,18 @@ one_look event pid start v w s unlisted failed is left gave seen out ended gone 
   out = out;
   ended = ended;
   gone = gone;
-})
+}
+
+-- a sighter that met a pass once
+pub met_once : (p s s1 : Known Item) (left : Option (List Sighted)) (gave : Option (List Look)) → Learned caller_of IsJournal s s1 → p.history ≡ s1.history → p.made ≡ s1.made → p.ended ≡ s1.ended → Meets p (watch s left gave) (watch s1 left gave)
+met_once p s s1 left gave learned history made ended = record {
+  learned = learned;
+  history = sym history;
+  made = sym made;
+  ended = sym ended;
+  left = refl;
+  gave = refl;
+}
 
 -- a look that shows that a process has ended did not fail
 pub ended_seen : (start : ℕ) (s : Sighted) → has_ended start s ≡ true → has_seen s ≡ true
@@ -97,11 +102,4 @@ meets_again p1 s1 p2 p3 c history made ended l equal longer most kept = (
 -- a sighter that met the pass twice
 pub sighter_met : (p s s1 s3 : Known Item) (left : Option (List Sighted)) (gave : Option (List Look)) → Learned caller_of IsJournal s s1 → Learned caller_of IsJournal s1 s3 → p.history ≡ s3.history → p.made ≡ s3.made → p.ended ≡ s3.ended
     → HasMet p (Some (watch s left gave)) (Some (watch s3 left gave))
-sighter_met p s s1 s3 left gave one two history made ended = record {
-  learned = learned_trans caller_of IsJournal s s1 s3 one two;
-  history = sym history;
-  made = sym made;
-  ended = sym ended;
-  left = refl;
-  gave = refl;
-}
+sighter_met p s s1 s3 left gave one two history made ended = met_once p s s3 left gave (learned_trans caller_of IsJournal s s1 s3 one two) history made ended

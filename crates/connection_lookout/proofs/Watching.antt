@@ -1,6 +1,6 @@
 -- What each look makes of what a sighter has done.
-use Rattle.std.proofs.Common.{◌≡◌, ℕ, Bool, true, false, cond, get_or, List, [], ◌∷◌, ◌++◌, Option, Some, None, refl, ap, sym, ◌∙◌, subst, append-nil, append_assoc, map, inl, inr}
-use Rattle.std.specs.Prelude.{All, filter, not}
+use Rattle.std.proofs.Common.{◌≡◌, ◌≤◌, ◌<◌, ℕ, suc, Bool, true, false, cond, get_or, length, arith, List, [], ◌∷◌, ◌++◌, Option, Some, None, refl, ap, sym, ◌∙◌, subst, append-nil, append_assoc, map, inl, inr}
+use Rattle.std.specs.Prelude.{◌+◌, ◌⊎◌, All, filter, not}
 use Rattle.std.specs.List.{cons_option}
 use Rattle.std.proofs.lemmas.List.{map-append}
 use Rattle.std.proofs.lemmas.List.Elements.{All-append, All-cons, All-nil, filter_map-append}
@@ -10,13 +10,17 @@ use Rattle.authority_model.specs.declared.journal.Item.{Item}
 use Rattle.connection_laws.proofs.Growing.{knows_entered, knows_learned}
 use Rattle.connection_lookout.proofs.Unlisting.{unlist_entered, unlist_learned, unlist_none}
 use Rattle.connection_lookout.specs.Unlistings.{DidUnlist}
-use Rattle.connection_lookout.specs.Watching.{AllLooked, AllTaken, HasMet, IsFresh, IsOut, Looks, LooksAt, Takes, TookOut, TookTurn, Turn, Watch, Watched, Watching, has_ended, has_seen, look_of, names, process_of, processes}
+use Rattle.connection_lookout.proofs.Betweens.{filter_more, look_out, turned_more, turned_quiet, were_out, were_out_same}
+use Rattle.connection_lookout.specs.Watching.{AllLooked, AllTaken, HasMet, IsFresh, IsOut, Looks, LooksAt, Meets, Own, Takes, TookOut, TookTurn, Turn, Turned, WasOut, Watch, Watched, Watching, has_ended, has_seen, look_of, names, own, process_of, processes}
 use Rattle.history_lock.proofs.Prefixes.{prefix_self, prefix_trans}
 use Rattle.history_lock.specs.Known.{Known}
 use Rattle.history_lock.specs.declared.machine.EndCause.{EndCause}
 use Rattle.pk_outside.specs.declared.sights.Sighted.{Sighted}
 use Rattle.pk_outside.specs.Sightings.{GivesSighting, Look, Looked}
-use Rattle.shared_authority.specs.Journals.{past_of}
+use Rattle.history_lock.proofs.Growth.{learned_begins, learned_trans}
+use Rattle.history_lock.specs.Calls.{Learned}
+use Rattle.history_lock.specs.Entries.{entries_by}
+use Rattle.shared_authority.specs.Journals.{IsJournal, caller_of, past_of}
 use Rattle.sight_events.specs.Named.{named}
 
 -- the processes of one turn more
@@ -115,8 +119,9 @@ all_out_on : (first : List Item) (turns : List Turn) (v w : Known Item) → IsPr
 all_out_on first turns v w p ends all = λ k d lt ended. let t : Turn = get_or turns k d in out_on first t.pid t.start v w p ends (all k d lt ended)
 
 -- one turn more; where its look failed no event more was handed in
-turn_more : (events more : List Event) (u v w : Watch) (p : ℕ × ℕ) (failed : Bool) → Watching events u v → TookTurn p v w failed → names more ≡ names events ++ cond (not failed) (p ∷ []) [] → Watching more u w
-turn_more events more u v w p failed x t is = record {
+turn_more : (o now : Own) (events more : List Event) (u v w : Watch) (p : ℕ × ℕ) (failed : Bool) (x : Watching o events u v) (t : TookTurn p v w failed) → names more ≡ names events ++ cond (not failed) (p ∷ []) []
+    → Turned (WasOut now) 1 more (filter (λ (t : Turn). has_seen t.sighted) (x.turns ++ t.turn ∷ [])) → Watching now more u w
+turn_more o now events more u v w p failed x t is between = record {
   number = out_number t.turn.unlisted t.turn.pid t.turn.start v.pass w.pass t.out ∙ x.number;
   begins = prefix_trans u.pass.history v.pass.history w.pass.history x.begins (out_begins t.turn.unlisted t.turn.pid t.turn.start v.pass w.pass t.out);
   turns = x.turns ++ t.turn ∷ [];
@@ -133,11 +138,12 @@ turn_more events more u v w p failed x t is = record {
   gone = All-append (AreOut u.pass.history w.pass) x.turns (t.turn ∷ [])
       (all_out_on u.pass.history x.turns v.pass w.pass (out_begins t.turn.unlisted t.turn.pid t.turn.start v.pass w.pass t.out) (stays_ended t.turn.unlisted t.turn.pid t.turn.start v.pass w.pass t.out) x.gone)
       (All-cons (AreOut u.pass.history w.pass) t.turn [] (λ ended. out_since u.pass.history v.pass.history t.turn.pid t.turn.start w.pass x.begins (t.gone ended)) (All-nil (AreOut u.pass.history w.pass)));
+  between = between;
 }
 
 -- no turn more
-no_turn_more : (events more : List Event) (u v w : Watch) → Watching events u v → w ≡ v → names more ≡ names events → Watching more u w
-no_turn_more events more u v w x same is = subst (Watching more u) (sym same) (record {
+no_turn_more : (o now : Own) (events more : List Event) (u v : Watch) (x : Watching o events u v) → names more ≡ names events → Turned (WasOut now) 1 more (filter (λ (t : Turn). has_seen t.sighted) x.turns) → Watching now more u v
+no_turn_more o now events more u v x is between = record {
   number = x.number;
   begins = x.begins;
   turns = x.turns;
@@ -147,38 +153,132 @@ no_turn_more events more u v w x same is = subst (Watching more u) (sym same) (r
   did = x.did;
   ended = x.ended;
   gone = x.gone;
-})
+  between = between;
+}
 
--- it looked before one event more
-pub watched_more : (events : List Event) (event : Event) (a b c : Option Watch) → Watched events a b → Looks event b c false → Watched (events ++ event ∷ []) a c
-watched_more events event None None None x l = tt
-watched_more events event None None (Some c) x l = absurd l
-watched_more events event None (Some b) c x l = absurd x
-watched_more events event (Some a) None c x l = absurd x
-watched_more events event (Some a) (Some b) None x l = absurd l
-watched_more events event (Some a) (Some b) (Some c) x l = go (named event) refl l
-  where
-    go : (n : Option (ℕ × ℕ)) → named event ≡ n → LooksAt n b c false → Watching (events ++ event ∷ []) a c
-    go None none at = no_turn_more events (events ++ event ∷ []) a b c x at.0 (no_names_more events event none)
-    go (Some p) is at = turn_more events (events ++ event ∷ []) a b c p false x at (names_more events event p is)
+-- the sighter met another pass
+met_more : (o : Own) (events : List Event) (p : Known Item) (u v w : Watch) → Watching o events u v → Meets p v w → Watching o events u w
+met_more o events p u v w x m = record {
+  number = m.learned.number ∙ x.number;
+  begins = prefix_trans u.pass.history v.pass.history w.pass.history x.begins (knows_learned v.pass w.pass m.learned).begins;
+  turns = x.turns;
+  looked = x.looked;
+  left = subst (λ (l : Option (List Sighted)). AllTaken u.left l (map (λ (t : Turn). t.sighted) x.turns)) (sym m.left) x.left;
+  gave = subst (λ (l : Option (List Look)). AllLooked u.gave l (map look_of x.turns)) (sym m.gave) x.gave;
+  did = unlist_learned u.pass.number v.pass w.pass (processes (λ (t : Turn). t.unlisted) x.turns) x.number m.learned x.did;
+  ended = x.ended;
+  gone = all_out_on u.pass.history x.turns v.pass w.pass (knows_learned v.pass w.pass m.learned).begins (λ cause is. (m.learned.ended cause is).0) x.gone;
+  between = x.between;
+}
 
--- the look before an event failed
-pub watched_failed : (events : List Event) (event : Event) (a b c : Option Watch) → Watched events a b → Looks event b c true → Watched events a c
-watched_failed events event None None None x l = tt
-watched_failed events event None None (Some c) x l = absurd l
-watched_failed events event None (Some b) c x l = absurd x
-watched_failed events event (Some a) None c x l = absurd x
-watched_failed events event (Some a) (Some b) None x l = absurd l
-watched_failed events event (Some a) (Some b) (Some c) x l = go (named event) l
+-- whether the turns of the looks that succeeded are one more
+seen_more : (turns : List Turn) (t : Turn) (failed : Bool) → has_seen t.sighted ≡ not failed → filter (λ (t : Turn). has_seen t.sighted) (turns ++ t ∷ []) ≡ filter (λ (t : Turn). has_seen t.sighted) turns ++ cond (not failed) (t ∷ []) []
+seen_more turns t failed is = filter_more (λ (t : Turn). has_seen t.sighted) turns t (not failed) is
+
+module _ (n m : ℕ) (h : List Item) (events : List Event) where
+  -- a longer history that has no entry of the connection more
+  pub watched_on : (g : List Item) (a b : Option Watch) → IsPrefix h g → Watched (own n m h) events a b → Watched (own n m g) events a b
+  watched_on g None None p x = tt
+  watched_on g None (Some b) p x = absurd x
+  watched_on g (Some a) None p x = absurd x
+  watched_on g (Some a) (Some b) p x =
+      no_turn_more (own n m h) (own n m g) events events a b x refl (were_out_same n m h g events (filter (λ (t : Turn). has_seen t.sighted) x.turns) p x.between)
+
+  -- or has some, of which each event has one already
+  pub watched_grown : (more : ℕ) (g : List Item) (a b : Option Watch) → IsPrefix h g → suc (length events) ≤ m → Watched (own n m h) events a b → Watched (own n more g) events a b
+  watched_grown more g None None p enough x = tt
+  watched_grown more g None (Some b) p enough x = absurd x
+  watched_grown more g (Some a) None p enough x = absurd x
+  watched_grown more g (Some a) (Some b) p enough x =
+      no_turn_more (own n m h) (own n more g) events events a b x refl (were_out n m more h g events (filter (λ (t : Turn). has_seen t.sighted) x.turns) p enough x.between)
+
+  -- a sighter that met a pass
+  pub watched_met : (p : Known Item) (a b c : Option Watch) → Watched (own n m h) events a b → HasMet p b c → Watched (own n m h) events a c
+  watched_met p None None None x meets = tt
+  watched_met p None None (Some c) x meets = absurd meets
+  watched_met p None (Some b) c x meets = absurd x
+  watched_met p (Some a) None c x meets = absurd x
+  watched_met p (Some a) (Some b) None x meets = absurd meets
+  watched_met p (Some a) (Some b) (Some c) x meets = met_more (own n m h) events p a b c x meets
+
+-- a connection's pass learned of others' items alone in a look, or of none
+pub look_learned : (event : Event) (p q : Known Item) (b c : Option Watch) (failed : Bool) → Looks event p q b c failed → (q ≡ p) ⊎ Learned caller_of IsJournal p q
+look_learned event p q None None failed l = inl l.0
+look_learned event p q None (Some c) failed l = absurd l
+look_learned event p q (Some b) None failed l = absurd l
+look_learned event p q (Some b) (Some c) failed l = at (named event) l
   where
-    go : (n : Option (ℕ × ℕ)) → LooksAt n b c true → Watching events a c
-    go None at = absurd (cc (at.1))
-    go (Some p) at = turn_more events events a b c p true x at (sym (append-nil (names events)))
+    at : (n : Option (ℕ × ℕ)) → LooksAt n p q b c failed → (q ≡ p) ⊎ Learned caller_of IsJournal p q
+    at None x = inl x.0
+    at (Some process) x = inr (learned_trans caller_of IsJournal p x.met q x.learned x.knows)
+
+pub look_begins : (event : Event) (p q : Known Item) (b c : Option Watch) (failed : Bool) → Looks event p q b c failed → IsPrefix p.history q.history
+look_begins event p q b c failed l = either (look_learned event p q b c failed l)
+  where
+    either : (q ≡ p) ⊎ Learned caller_of IsJournal p q → IsPrefix p.history q.history
+    either (inl same) = subst (λ (k : Known Item). IsPrefix p.history k.history) (sym same) (prefix_self p.history)
+    either (inr x) = learned_begins caller_of IsJournal p q x
+
+module _ (n m : ℕ) (events : List Event) (event : Event) (p q : Known Item) (enough : suc (length events) ≤ m) where
+  -- It looked before one event more. Where this is entered, the pass knew of no end of the lock.
+  pub watched_more : (more : ℕ) (g : List Item) (a b c : Option Watch) → p.number ≡ n → length (entries_by caller_of n p.history) ≡ suc (length events) → IsPrefix q.history g → (suc (length events) < more → q.ended ≡ None)
+      → Watched (own n m p.history) events a b → Looks event p q b c false → Watched (own n more g) (events ++ event ∷ []) a c
+  watched_more more g None None None is count longer unended x l = tt
+  watched_more more g None None (Some c) is count longer unended x l = absurd l
+  watched_more more g None (Some b) c is count longer unended x l = absurd x
+  watched_more more g (Some a) None c is count longer unended x l = absurd x
+  watched_more more g (Some a) (Some b) None is count longer unended x l = absurd l
+  watched_more more g (Some a) (Some b) (Some c) is count longer unended x l = at (named event) refl l
+    where
+      begins : IsPrefix p.history g
+      begins = prefix_trans p.history q.history g (look_begins event p q (Some b) (Some c) false l) longer
+
+      before : (turns : List Turn) → Turned (WasOut (own n m p.history)) 1 events turns → Turned (WasOut (own n more g)) 1 events turns
+      before turns y = were_out n m more p.history g events turns begins enough y
+
+      counted : length (entries_by caller_of n p.history) ≡ 1 + length events
+      counted = omega (arith, count)
+
+      at : (k : Option (ℕ × ℕ)) → named event ≡ k → LooksAt k p q b c false → Watching (own n more g) (events ++ event ∷ []) a c
+      at None none y = subst (Watching (own n more g) (events ++ event ∷ []) a) (sym y.1)
+          (no_turn_more (own n m p.history) (own n more g) events (events ++ event ∷ []) a b x (no_names_more events event none)
+          (turned_quiet (WasOut (own n more g)) 1 events event (filter (λ (t : Turn). has_seen t.sighted) x.turns) none (before (filter (λ (t : Turn). has_seen t.sighted) x.turns) x.between)))
+      at (Some process) named_is y =
+          let first = met_more (own n m p.history) events y.met a b y.before x y.first in
+          let turned : Turned (WasOut (own n more g)) 1 (events ++ event ∷ []) (filter (λ (t : Turn). has_seen t.sighted) (first.turns ++ y.took.turn ∷ [])) =
+          subst (Turned (WasOut (own n more g)) 1 (events ++ event ∷ [])) (sym (seen_more first.turns y.took.turn false y.took.failed_is))
+          (turned_more (WasOut (own n more g)) 1 events event process (filter (λ (t : Turn). has_seen t.sighted) first.turns) y.took.turn named_is y.took.process
+          (λ ended has. look_out process p q b c false n more (1 + length events) g y is counted (unended (omega (arith, has))) longer ended)
+          (before (filter (λ (t : Turn). has_seen t.sighted) first.turns) first.between)) in
+          met_more (own n more g) (events ++ event ∷ []) q a y.after c
+          (turn_more (own n m p.history) (own n more g) events (events ++ event ∷ []) a y.before y.after process false first y.took (names_more events event process named_is) turned) y.second
+
+  -- the look before an event failed
+  pub watched_failed : (a b c : Option Watch) → Watched (own n m p.history) events a b → Looks event p q b c true → Watched (own n m q.history) events a c
+  watched_failed None None None x l = tt
+  watched_failed None None (Some c) x l = absurd l
+  watched_failed None (Some b) c x l = absurd x
+  watched_failed (Some a) None c x l = absurd x
+  watched_failed (Some a) (Some b) None x l = absurd l
+  watched_failed (Some a) (Some b) (Some c) x l = at (named event) l
+    where
+      begins : IsPrefix p.history q.history
+      begins = look_begins event p q (Some b) (Some c) true l
+
+      at : (k : Option (ℕ × ℕ)) → LooksAt k p q b c true → Watching (own n m q.history) events a c
+      at None y = absurd (cc (y.2))
+      at (Some process) y =
+          let first = met_more (own n m p.history) events y.met a b y.before x y.first in
+          let turned : Turned (WasOut (own n m q.history)) 1 events (filter (λ (t : Turn). has_seen t.sighted) (first.turns ++ y.took.turn ∷ [])) =
+          subst (Turned (WasOut (own n m q.history)) 1 events) (sym (seen_more first.turns y.took.turn true y.took.failed_is ∙ append-nil (filter (λ (t : Turn). has_seen t.sighted) first.turns)))
+          (were_out n m m p.history q.history events (filter (λ (t : Turn). has_seen t.sighted) first.turns) begins enough first.between) in
+          met_more (own n m q.history) events q a y.after c
+          (turn_more (own n m p.history) (own n m q.history) events events a y.before y.after process true first y.took (sym (append-nil (names events))) turned) y.second
 
 -- a sighter that has not looked yet
-pub watched_self : (a : Option Watch) → IsFresh a → Watched [] a a
-watched_self None fresh = tt
-watched_self (Some v) fresh = record {
+pub watched_self : (o : Own) (a : Option Watch) → IsFresh a → Watched o [] a a
+watched_self o None fresh = tt
+watched_self o (Some v) fresh = record {
   number = refl;
   begins = prefix_self v.pass.history;
   turns = [];
@@ -188,23 +288,5 @@ watched_self (Some v) fresh = record {
   did = unlist_none v.pass.number v.pass.history fresh;
   ended = All-nil (λ (t : Turn). t.unlisted ≡ true → has_ended t.start t.sighted ≡ true);
   gone = All-nil (AreOut v.pass.history v.pass);
-}
-
--- a sighter that met the connection's pass
-pub watched_met : (events : List Event) (p : Known Item) (a b c : Option Watch) → Watched events a b → HasMet p b c → Watched events a c
-watched_met events p None None None x m = tt
-watched_met events p None None (Some c) x m = absurd m
-watched_met events p None (Some b) c x m = absurd x
-watched_met events p (Some a) None c x m = absurd x
-watched_met events p (Some a) (Some b) None x m = absurd m
-watched_met events p (Some a) (Some b) (Some c) x m = record {
-  number = m.learned.number ∙ x.number;
-  begins = prefix_trans a.pass.history b.pass.history c.pass.history x.begins (knows_learned b.pass c.pass m.learned).begins;
-  turns = x.turns;
-  looked = x.looked;
-  left = subst (λ (l : Option (List Sighted)). AllTaken a.left l (map (λ (t : Turn). t.sighted) x.turns)) (sym m.left) x.left;
-  gave = subst (λ (l : Option (List Look)). AllLooked a.gave l (map look_of x.turns)) (sym m.gave) x.gave;
-  did = unlist_learned a.pass.number b.pass c.pass (processes (λ (t : Turn). t.unlisted) x.turns) x.number m.learned x.did;
-  ended = x.ended;
-  gone = all_out_on a.pass.history x.turns b.pass c.pass (knows_learned b.pass c.pass m.learned).begins (λ cause is. (m.learned.ended cause is).0) x.gone;
+  between = refl;
 }

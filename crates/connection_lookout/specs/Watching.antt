@@ -1,5 +1,5 @@
 -- What a sighter did beside a connection: at which processes it looked, what it saw, and which of them it took out of the last load.
-use Rattle.std.specs.Prelude.{◌≡◌, ◌==◌, ◌⊎◌, ⊤, ℕ, Bool, true, false, not, List, [], ◌∷◌, ◌++◌, Option, None, Some, All, filter, filter_map, map}
+use Rattle.std.specs.Prelude.{◌≡◌, ◌==◌, ◌<◌, ◌⊎◌, ⊤, ℕ, suc, Bool, true, false, not, List, [], ◌∷◌, ◌++◌, Option, None, Some, All, filter, filter_map, length, map}
 use mathlib.Core.List.{IsPrefix}
 use Rattle.authority_model.specs.declared.event.Event.{Event}
 use Rattle.authority_core.specs.Unlisting.{lists_process}
@@ -7,7 +7,7 @@ use Rattle.authority_model.specs.declared.journal.Item.{Item}
 use Rattle.authority_model.specs.Items.{loaded_of}
 use Rattle.connection_lookout.specs.Unlistings.{DidUnlist}
 use Rattle.history_lock.specs.Calls.{Learned}
-use Rattle.history_lock.specs.Entries.{NoneBy}
+use Rattle.history_lock.specs.Entries.{NoneBy, entries_by}
 use Rattle.history_lock.specs.Known.{Known}
 use Rattle.history_lock.specs.declared.machine.EndCause.{EndCause}
 use Rattle.pk_outside.specs.declared.sights.Sighted.{Sighted}
@@ -97,8 +97,39 @@ pub record LacksProcess (first last : List Item) (pid start : ℕ) : Type 0 wher
 abbrev pub IsOut : List Item → ℕ → ℕ → Known Item → Type 0
 IsOut first pid start w = LacksProcess first w.history pid start ⊎ ((cause : EndCause) × (w.ended ≡ Some cause))
 
--- From v to w the sighter looked before these events.
-pub record Watching (events : List Event) (v w : Watch) : Type 0 where
+-- What is known of a connection: its number, how many of its entries are in the history, and the history.
+pub record Own : Type 0 where
+  pub number : ℕ
+  pub entries : ℕ
+  pub history : List Item
+
+abbrev pub own : ℕ → ℕ → List Item → Own
+own number entries history = record { number = number; entries = entries; history = history }
+
+-- A beginning of the history has the connection's first k entries and no other of its own, and its last load does not list the process.
+pub record OutBehind (o : Own) (k pid start : ℕ) : Type 0 where
+  pub known : List Item
+  pub within : IsPrefix known o.history
+  pub has : length (entries_by caller_of o.number known) ≡ k
+  pub lacks : lists_process (loaded_of (past_of known)) pid start ≡ false
+
+-- Where the process was seen to have ended, and the event that was to be the connection's entry k has its entry, the process was in no load between the connection's entry before and that one.
+abbrev pub WasOut : Own → ℕ → Turn → Type 0
+WasOut o k t = has_ended t.start t.sighted ≡ true → k < o.entries → OutBehind o k t.pid t.start
+
+-- The turn before an event, of which this holds; and none before an event that names no process.
+abbrev pub AtTurn : (ℕ → Turn → Type 0) → ℕ → Option (ℕ × ℕ) → List Turn → (List Turn → Type 0) → Type 0
+AtTurn Holds k None turns rest = rest turns
+AtTurn Holds k (Some p) [] rest = ⊥
+AtTurn Holds k (Some p) (t ∷ turns) rest = (process_of t ≡ p) × Holds k t × rest turns
+
+-- The turns before events, of which this holds. The first of the events is to be the connection's entry k.
+abbrev pub Turned : (ℕ → Turn → Type 0) → ℕ → List Event → List Turn → Type 0
+Turned Holds k [] turns = turns ≡ []
+Turned Holds k (event ∷ events) turns = AtTurn Holds k (named event) turns (Turned Holds (suc k) events)
+
+-- From v to w the sighter looked before these events of the connection, which stand behind its beginning.
+pub record Watching (o : Own) (events : List Event) (v w : Watch) : Type 0 where
   pub number : w.pass.number ≡ v.pass.number
   pub begins : IsPrefix v.pass.history w.pass.history
   pub turns : List Turn
@@ -112,13 +143,15 @@ pub record Watching (events : List Event) (v w : Watch) : Type 0 where
   pub ended : All (λ t. t.unlisted ≡ true → has_ended t.start t.sighted ≡ true) turns
   -- each process that was seen to have ended is then in no load, unless the lock has ended
   pub gone : All (λ t. has_ended t.start t.sighted ≡ true → IsOut v.pass.history t.pid t.start w.pass) turns
+  -- and where the event has its entry, it was in no load between the connection's entry before and that one
+  pub between : Turned (WasOut o) 1 events (filter (λ t. has_seen t.sighted) turns)
 
 -- the same of a connection that has a sighter, or has none
-abbrev pub Watched : List Event → Option Watch → Option Watch → Type 0
-Watched events None None = Unit {0}
-Watched events None (Some w) = ⊥
-Watched events (Some v) None = ⊥
-Watched events (Some v) (Some w) = Watching events v w
+abbrev pub Watched : Own → List Event → Option Watch → Option Watch → Type 0
+Watched o events None None = Unit {0}
+Watched o events None (Some w) = ⊥
+Watched o events (Some v) None = ⊥
+Watched o events (Some v) (Some w) = Watching o events v w
 
 -- A sighter that has no item yet.
 abbrev pub IsFresh : Option Watch → Type 0
@@ -141,18 +174,6 @@ pub record TookTurn (p : ℕ × ℕ) (v w : Watch) (failed : Bool) : Type 0 wher
   pub ended : turn.unlisted ≡ true → has_ended turn.start turn.sighted ≡ true
   pub gone : has_ended turn.start turn.sighted ≡ true → IsOut v.pass.history turn.pid turn.start w.pass
 
--- a look where a process is named, and none where none is
-abbrev pub LooksAt : Option (ℕ × ℕ) → Watch → Watch → Bool → Type 0
-LooksAt None v w failed = (w ≡ v) × (failed ≡ false)
-LooksAt (Some p) v w failed = TookTurn p v w failed
-
--- What was done before an event, and whether a look failed.
-abbrev pub Looks : Event → Option Watch → Option Watch → Bool → Type 0
-Looks event None None failed = failed ≡ false
-Looks event None (Some w) failed = ⊥
-Looks event (Some v) None failed = ⊥
-Looks event (Some v) (Some w) failed = LooksAt (named event) v w failed
-
 -- A sighter that has met a pass knows what that pass knows.
 pub record Meets (p : Known Item) (v w : Watch) : Type 0 where
   pub learned : Learned caller_of IsJournal v.pass w.pass
@@ -161,6 +182,29 @@ pub record Meets (p : Known Item) (v w : Watch) : Type 0 where
   pub ended : w.pass.ended ≡ p.ended
   pub left : w.left ≡ v.left
   pub gave : w.gave ≡ v.gave
+
+-- One turn was taken for this process, between two meetings of the sighter with the connection's pass, which went from p to q and has no item more of its own.
+pub record TookLook (named : ℕ × ℕ) (p q : Known Item) (v w : Watch) (failed : Bool) : Type 0 where
+  pub met : Known Item
+  pub before : Watch
+  pub after : Watch
+  pub learned : Learned caller_of IsJournal p met
+  pub first : Meets met v before
+  pub took : TookTurn named before after failed
+  pub knows : Learned caller_of IsJournal met q
+  pub second : Meets q after w
+
+-- a look where a process is named, and none where none is
+abbrev pub LooksAt : Option (ℕ × ℕ) → Known Item → Known Item → Watch → Watch → Bool → Type 0
+LooksAt None p q v w failed = (q ≡ p) × (w ≡ v) × (failed ≡ false)
+LooksAt (Some process) p q v w failed = TookLook process p q v w failed
+
+-- What was done before an event, and whether a look failed. The connection's pass went from p to q.
+abbrev pub Looks : Event → Known Item → Known Item → Option Watch → Option Watch → Bool → Type 0
+Looks event p q None None failed = (q ≡ p) × (failed ≡ false)
+Looks event p q None (Some w) failed = ⊥
+Looks event p q (Some v) None failed = ⊥
+Looks event p q (Some v) (Some w) failed = LooksAt (named event) p q v w failed
 
 abbrev pub HasMet : Known Item → Option Watch → Option Watch → Type 0
 HasMet p None None = Unit {0}

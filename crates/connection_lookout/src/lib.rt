@@ -6,4 +6,4 @@ mod lookout;
 mod unlistings;
 
 pub use lookout::{NoSights, SightFailed, look, meet};
-pub use unlistings::unlistings_grow;
+pub use unlistings::{loads_end_grants, unlistings_grow};

@@ -1,11 +1,12 @@
 // Whether a connection looks at processes, and what it does then.
 ghost use Rattle.std.specs.Prelude.{◌≡◌, ◌≤◌, Bool, Some, is_err, not};
-ghost use Rattle.connection_lookout.specs.Watching.{Looks, HasMetBy, HaveMet, IsOut, TookOut, watch, watch_of};
+ghost use Rattle.connection_lookout.specs.Watching.{HasMetBy, HaveMet, IsOut, Looks, LooksAt, TookOut, TookTurn, watch, watch_of};
 ghost use Rattle.connection_lookout.specs.Watching as watching;
 ghost use Rattle.history_lock.specs.Calls.{Learned};
 ghost use Rattle.history_lock.specs.declared.machine.TheConstants.{MOST_PASSES};
 ghost use Rattle.pk_outside.specs.Causes.{RoseWhere};
 ghost use Rattle.shared_authority.specs.Journals.{IsJournal, caller_of};
+ghost use Rattle.sight_events.specs.Named as naming;
 
 use authority_model::Event;
 use history_lock::{Pass, TableName};
@@ -82,21 +83,19 @@ fn take_out<L: LimitsName, T: TableName, R: Wait>(
     }
 }
 
-/// Takes one sighting of the process that an event names, by the sighter.
-fn look_by<L: LimitsName, T: TableName, G: Sights, R: Wait>(
+/// Takes one sighting of a process, by the sighter.
+fn look_at<L: LimitsName, T: TableName, G: Sights, R: Wait>(
     rt: &R,
     shared: &Shared<L, T>,
     sighter: &mut Pass<Kept<L>, T>,
     sights: &mut G,
-    event: &Event,
+    pid: u32,
+    start: u64,
 ) -> Result<(), SightFailed>
-    ensures looks { Looks event.now (Some (watch sighter.old (G.left sights.old) (G.gave sights.old)))
-        (Some (watch sighter.new (G.left sights.new) (G.gave sights.new))) (is_err result) }
+    ensures took { TookTurn (pid, start) (watch sighter.old (G.left sights.old) (G.gave sights.old))
+        (watch sighter.new (G.left sights.new) (G.gave sights.new)) (is_err result) }
     ensures cause { RoseWhere (is_err result) (G.faults sights.old) (G.faults sights.new) }
 {
-    let Some((pid, start)) = named(event) else {
-        return Ok(());
-    };
     let sighted = sights.sight(pid);
     if has_failed(sighted) {
         return Err(SightFailed);
@@ -107,29 +106,54 @@ fn look_by<L: LimitsName, T: TableName, G: Sights, R: Wait>(
     Ok(())
 }
 
+/// Takes one sighting of the process that an event names, by the sighter. It knows what the pass of the
+/// connection knows before, and the pass knows afterwards what it did.
+fn look_by<L: LimitsName, T: TableName, G: Sights, R: Wait>(
+    rt: &R,
+    shared: &Shared<L, T>,
+    pass: &mut Pass<Kept<L>, T>,
+    sighter: &mut Pass<Kept<L>, T>,
+    sights: &mut G,
+    event: &Event,
+) -> Result<(), SightFailed>
+    ensures looks { LooksAt (naming.named event.now) pass.old pass.new (watch sighter.old (G.left sights.old) (G.gave sights.old))
+        (watch sighter.new (G.left sights.new) (G.gave sights.new)) (is_err result) }
+    ensures cause { RoseWhere (is_err result) (G.faults sights.old) (G.faults sights.new) }
+{
+    let Some((pid, start)) = named(event) else {
+        return Ok(());
+    };
+    shared.meet(pass, sighter);
+    let looked = look_at(rt, shared, sighter, sights, pid, start);
+    shared.meet(pass, sighter);
+    looked
+}
+
 /// What a connection does before it hands an event in. One that has a sighter takes one sighting of
 /// the process that the event names. Where this has ended, or another process has its pid, the
-/// sighter enters the last load without it; where this is refused the lock ends. A connection that
-/// has no sighter does nothing: it never looks.
+/// sighter enters the last load without it; where this is refused the lock ends. The pass of the
+/// connection knows then what the sighter knows. A connection that has no sighter does nothing: it
+/// never looks.
 ///
 /// # Errors
 /// The look failed, and was counted.
 pub fn look<L: LimitsName, T: TableName, G: Sights, R: Wait>(
     rt: &R,
     shared: &Shared<L, T>,
+    pass: &mut Pass<Kept<L>, T>,
     sighter: &mut Option<Pass<Kept<L>, T>>,
     sights: &mut G,
     event: &Event,
 ) -> Result<(), SightFailed>
-    // What the sighter saw and did, if there is one.
-    ensures looks { Looks event.now (watch_of sighter.old (G.left sights.old) (G.gave sights.old))
+    // What the sighter saw and did, if there is one, and what the connection's pass learned.
+    ensures looks { Looks event.now pass.old pass.new (watch_of sighter.old (G.left sights.old) (G.gave sights.old))
         (watch_of sighter.new (G.left sights.new) (G.gave sights.new)) (is_err result) }
     // A look that failed was counted, and no other.
     ensures cause { RoseWhere (is_err result) (G.faults sights.old) (G.faults sights.new) }
 {
     match sighter {
         None => Ok(()),
-        Some(sighter) => look_by(rt, shared, sighter, sights, event),
+        Some(sighter) => look_by(rt, shared, pass, sighter, sights, event),
     }
 }
 

@@ -1,4 +1,3 @@
 pub mod Follows
 pub mod Readings
-pub mod Meeting
 mod Stopping

@@ -15,7 +15,7 @@ use Rattle.connection_laws.specs.Doings.{Did}
 use Rattle.connection_laws.specs.Knowing.{KnowsMore}
 use Rattle.connection_reader.specs.declared.ends.ReaderEnd.{ReaderEnd}
 use Rattle.connection_reader.specs.declared.ends.ReaderEnd.TheVariants as reader
-use Rattle.connection_lookout.specs.Watching.{Watch, Watched}
+use Rattle.connection_lookout.specs.Watching.{Watch, Watched, own}
 
 -- the bytes begin with these messages, one after the other, and the rest follows
 abbrev pub Follow : List ℕ → List Seen → List ℕ → Type 0
@@ -61,7 +61,7 @@ pub record Reading (uid : ℕ) (refused : List Given) (tail : List What) (s t : 
   pub readings : Got s.readings t.readings (map (λ g. g.moment) (handed ++ refused))
   pub words : Got s.words t.words (map (λ g. g.salt) (handed ++ refused))
   -- the sighter looked before what each message asks
-  pub watched : Watched (map event_of messages) s.watch t.watch
+  pub watched : Watched (own s.pass.number (length handed) t.pass.history) (map event_of messages) s.watch t.watch
 
 -- The connection goes on.
 abbrev pub IsUnderway : ℕ → Hand → Hand → Type 0

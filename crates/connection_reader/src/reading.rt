@@ -54,7 +54,7 @@ fn read_next<
 {
     match inbox.next_event() {
         NextEvent::Whole { event, used } => {
-            match look(common.rt, common.shared, sighter, sights, &event) {
+            match look(common.rt, common.shared, pass, sighter, sights, &event) {
                 Ok(()) => {}
                 Err(SightFailed) => return Ok(Some(ReadStop::SightFault)),
             }

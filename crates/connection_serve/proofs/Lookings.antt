@@ -1,5 +1,5 @@
 -- What a connection says of its looks, put together of its two halves.
-use Rattle.std.proofs.Common.{◌≡◌, ◌≢◌, ◌≤◌, ℕ, List, [], ◌∷◌, ◌++◌, Option, Some, None, inl, inr, refl, ap, sym, subst}
+use Rattle.std.proofs.Common.{◌≡◌, ◌≢◌, ◌≤◌, ℕ, List, [], ◌∷◌, ◌++◌, Option, Some, None, length, inl, inr, refl, ap, sym, subst}
 use Rattle.std.specs.Prelude.{◌⊎◌, Bool, map}
 use Rattle.authority_calls.specs.Events.{event_of}
 use Rattle.authority_laws.specs.Batches.{loads_in}
@@ -9,11 +9,11 @@ use Rattle.authority_model.specs.declared.journal.Limits.{Limits}
 use Rattle.authority_model.specs.Given.{Given, What}
 use Rattle.connection_laws.proofs.Doing.{did_learned, did_none}
 use Rattle.connection_laws.specs.Doings.{Did}
-use Rattle.connection_lookout.proofs.Watching.{watched_met, watched_self}
+use Rattle.connection_lookout.proofs.Watching.{watched_met, watched_on, watched_self}
 use Rattle.connection_reader.specs.declared.ends.ReaderEnd.{ReaderEnd}
 use Rattle.connection_reader.specs.declared.ends.ReaderEnd.TheVariants as reader
 use Rattle.connection_reader.specs.Reading.{Hand, Reading, ReadsTo, SightFaultsTo}
-use Rattle.connection_lookout.specs.Watching.{HasMet, IsFresh, Watch, Watched}
+use Rattle.connection_lookout.specs.Watching.{HasMet, IsFresh, Watch, Watched, own}
 use Rattle.connection_serve.specs.declared.ends.LiveEnd.{LiveEnd}
 use Rattle.connection_serve.specs.declared.ends.LiveEnd.TheVariants as live
 use Rattle.connection_serve.specs.Ends.{OnSightFault, end_of, live_end_of, plain_of}
@@ -25,6 +25,7 @@ use Rattle.connection_writer.specs.declared.ends.WriterEnd.{WriterEnd}
 use Rattle.connection_writer.specs.declared.ends.WriterEnd.TheVariants as writer
 use Rattle.connection_writer.specs.Writing.{WritesTo}
 use Rattle.history_lock.specs.declared.machine.TheConstants.{MOST_PASSES}
+use Rattle.history_lock.proofs.Growth.{learned_begins}
 use Rattle.history_lock.specs.Calls.{Learned}
 use Rattle.history_lock.specs.Entries.{NoneBy}
 use Rattle.history_lock.specs.Known.{Known}
@@ -88,7 +89,9 @@ looks_met uid v w a b c l m x = record {
   stream = x.stream;
   story = x.story;
   tells = record { follow = x.tells.follow; asks = x.tells.asks; did = subst (λ (n : ℕ). Did n (past_of w.history) x.story.entered) (sym l.number) (did_learned v.number v w x.story.entered refl l x.tells.did) };
-  watched = watched_met (map event_of x.story.messages) w a b c x.watched m;
+  watched = subst (λ (n : ℕ). Watched (own n (length x.story.entered) w.history) (map event_of x.story.messages) a c) (sym l.number)
+      (watched_met v.number (length x.story.entered) w.history (map event_of x.story.messages) w a b c
+      (watched_on v.number (length x.story.entered) v.history (map event_of x.story.messages) w.history a b (learned_begins caller_of IsJournal v w l) x.watched) m);
 }
 
 -- a sighter that met the connection's pass knows the same
@@ -99,10 +102,10 @@ knows_met p (Some a) None m = absurd m
 knows_met p (Some a) (Some b) m = (m.history, m.made, m.ended)
 
 -- where the messages did not begin
-pub early_looked : (v w : Known Item) (a b : Option Watch) → NoneBy caller_of v.number v.history → Learned caller_of IsJournal v w → IsFresh a → HasMet w a b → Did w.number (past_of w.history) [] × Watched [] a b
+pub early_looked : (v w : Known Item) (a b : Option Watch) → NoneBy caller_of v.number v.history → Learned caller_of IsJournal v w → IsFresh a → HasMet w a b → Did w.number (past_of w.history) [] × Watched (own w.number 0 w.history) [] a b
 early_looked v w a b none l fresh m = (
   subst (λ (n : ℕ). Did n (past_of w.history) []) (sym l.number) (did_learned v.number v w [] refl l (did_none v.number v.history none)),
-  watched_met [] w a a b (watched_self a fresh) m,
+  watched_met w.number 0 w.history [] w a a b (watched_self (own w.number 0 w.history) a fresh) m,
 )
 
 -- all that was sent was written, where the writer wrote all

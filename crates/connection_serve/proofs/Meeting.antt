@@ -1,5 +1,5 @@
 -- What the two halves said goes on to hold, once their passes have learned of others' items.
-use Rattle.std.proofs.Common.{◌≡◌, ◌≢◌, ℕ, ◌≤◌, true, false, List, [], ◌∷◌, ◌++◌, Option, Some, Bool, inl, inr, ap, sym, ◌∙◌, subst}
+use Rattle.std.proofs.Common.{◌≡◌, ◌≢◌, ℕ, ◌≤◌, true, false, List, [], ◌∷◌, ◌++◌, Option, Some, Bool, length, inl, inr, ap, sym, ◌∙◌, subst}
 use Rattle.std.specs.Prelude.{map, reverse}
 use Rattle.std.proofs.lemmas.List.{reverse-append}
 use mathlib.Core.List.{IsPrefix}
@@ -16,7 +16,7 @@ use Rattle.connection_laws.proofs.Growing.{knows_learned, knows_trans}
 use Rattle.connection_laws.proofs.Taking.{taken_learned}
 use Rattle.connection_reader.specs.declared.ends.ReaderEnd.{ReaderEnd}
 use Rattle.connection_reader.specs.declared.ends.ReaderEnd.TheVariants as reader
-use Rattle.connection_lookout.proofs.Watching.{watched_met}
+use Rattle.connection_lookout.proofs.Watching.{watched_met, watched_on}
 use Rattle.connection_reader.specs.Reading.{Hand, IsRefused, Reading, ReadsTo}
 use Rattle.connection_lookout.specs.Watching.{HasMet, Watch}
 use Rattle.connection_writer.proofs.Writes.{writes_learned}
@@ -55,7 +55,8 @@ reading_learned uid refused tail s t w x l m r = record {
   asks = r.asks;
   readings = r.readings;
   words = r.words;
-  watched = watched_met (map event_of r.messages) w s.watch t.watch x r.watched m;
+  watched = watched_met s.pass.number (length r.handed) w.history (map event_of r.messages) w s.watch t.watch x
+      (watched_on s.pass.number (length r.handed) t.pass.history (map event_of r.messages) w.history s.watch t.watch (learned_begins caller_of IsJournal t.pass w l) r.watched) m;
 }
 
 refused_learned : (uid : ℕ) (s t : Hand) (w : Known Item) (x : Option Watch) → Learned caller_of IsJournal t.pass w → HasMet w t.watch x → IsRefused uid s t → IsRefused uid s (with_pass t w x)

@@ -1,9 +1,9 @@
 -- What a connection did that may look at processes, besides what one does that never looks.
-use Rattle.std.specs.Prelude.{◌≡◌, ◌⊎◌, ⊤, ℕ, List, [], ◌++◌, Option, None, Some, map}
+use Rattle.std.specs.Prelude.{◌≡◌, ◌⊎◌, ⊤, ℕ, List, [], ◌++◌, Option, None, Some, length, map}
 use Rattle.authority_calls.specs.Events.{event_of}
 use Rattle.authority_model.specs.declared.journal.Item.{Item}
 use Rattle.connection_laws.specs.Doings.{Did}
-use Rattle.connection_lookout.specs.Watching.{Watch, Watched}
+use Rattle.connection_lookout.specs.Watching.{Watch, Watched, own}
 use Rattle.connection_serve.specs.Headline.{Story, Tells, sent_texts}
 use Rattle.history_lock.specs.Known.{Known}
 use Rattle.pk_outside.specs.Streams.{Got}
@@ -14,11 +14,11 @@ pub record LooksBefore (uid number : ℕ) (H : List Item) (v w : Option Watch) :
   pub stream : List ℕ
   pub story : Story
   pub tells : Tells uid number stream H story
-  pub watched : Watched (map event_of story.messages) v w
+  pub watched : Watched (own number (length story.entered) H) (map event_of story.messages) v w
 
 -- The connection has no item in the history, and the sighter did not look; or the messages began.
 abbrev pub HasLooked : ℕ → ℕ → List Item → Option Watch → Option Watch → Type 0
-HasLooked uid number H v w = (Did number (past_of H) [] × Watched [] v w) ⊎ LooksBefore uid number H v w
+HasLooked uid number H v w = (Did number (past_of H) [] × Watched (own number 0 H) [] v w) ⊎ LooksBefore uid number H v w
 
 -- A sighter knows what the pass knows.
 abbrev pub KnowsSame : Known Item → Option Watch → Type 0

@@ -1,42 +1,31 @@
-use Rattle.std.proofs.Common.{false, true, ap, sym, ◌∙◌, refl, inl}
-use Rattle.std.specs.Prelude.{not}
-use Rattle.connection_lookout.proofs.Lookouts.{failed_not_ended, living_not_ended, look_cause, one_look}
-use Rattle.connection_lookout.specs.Watching.{Watch, watch}
+use Rattle.std.proofs.Common.{ℕ, Option, subst}
+use Rattle.std.specs.Prelude.{is_err}
+use Rattle.connection_lookout.proofs.Lookouts.{met_once}
+use Rattle.connection_lookout.specs.Watching.{LooksAt, Watch, watch}
 use Rattle.connection_lookout.proofs.lookout.look_by.Goals as goal
 
-pub returns-then-has_failed : goal.returns-then-has_failed
-returns-then-has_failed g c =
-    let s = c.sight-sighted in
-    let v : Watch = watch c.args.sighter.now (g.G.Sights.left c.args.sights.now) (g.G.Sights.gave c.args.sights.now) in
-    let w : Watch = watch c.args.sighter.now (g.G.Sights.left s.new.self) (g.G.Sights.gave s.new.self) in
-    let failed = c.has_failed.ensures.failed ∙ ap not c.if-has_failed.true in
+-- one look, between two meetings
+pub returns : goal.returns
+returns g c =
+    let m = c.meet in
+    let l = c.look_at-looked in
+    let n = c.meet-2 in
+    let left = g.G.Sights.left c.args.sights.now in
+    let gave = g.G.Sights.gave c.args.sights.now in
+    let left_now = g.G.Sights.left l.new.sights in
+    let gave_now = g.G.Sights.gave l.new.sights in
+    let v : Watch = watch c.args.sighter.now left gave in
+    let w : Watch = watch n.new.second left_now gave_now in
     record {
-      looks = one_look c.args.event.now c.in-Some.pid c.in-Some.start v w s.result false true (sym c.in-Some.ensures.process) s.ensures.next s.ensures.gave failed (inl refl) (λ is. absurd (cc (is)))
-          (λ is. absurd (failed_not_ended c.in-Some.start s.result failed is));
-      cause = look_cause (g.G.Sights.faults c.args.sights.now) (g.G.Sights.faults s.new.self) s.result true failed s.ensures.cause;
-    }
-
-pub returns-then-has_ended : goal.returns-then-has_ended
-returns-then-has_ended g c =
-    let s = c.sight-sighted in
-    let v : Watch = watch c.args.sighter.now (g.G.Sights.left c.args.sights.now) (g.G.Sights.gave c.args.sights.now) in
-    let w : Watch = watch c.take_out.new.sighter (g.G.Sights.left s.new.self) (g.G.Sights.gave s.new.self) in
-    let seen = c.has_failed.ensures.failed ∙ ap not c.if-has_failed.false in
-    let out = c.take_out.ensures.out in
-    record {
-      looks = one_look c.args.event.now c.in-Some.pid c.in-Some.start v w s.result out.0 false (sym c.in-Some.ensures.process) s.ensures.next s.ensures.gave seen out.1 (λ _. sym c.has_ended.ensures.ended ∙ c.if-has_ended.true)
-          (λ _. out.2);
-      cause = look_cause (g.G.Sights.faults c.args.sights.now) (g.G.Sights.faults s.new.self) s.result false seen s.ensures.cause;
-    }
-
-pub returns-else-has_ended : goal.returns-else-has_ended
-returns-else-has_ended g c =
-    let s = c.sight-sighted in
-    let v : Watch = watch c.args.sighter.now (g.G.Sights.left c.args.sights.now) (g.G.Sights.gave c.args.sights.now) in
-    let w : Watch = watch c.args.sighter.now (g.G.Sights.left s.new.self) (g.G.Sights.gave s.new.self) in
-    let seen = c.has_failed.ensures.failed ∙ ap not c.if-has_failed.false in
-    record {
-      looks = one_look c.args.event.now c.in-Some.pid c.in-Some.start v w s.result false false (sym c.in-Some.ensures.process) s.ensures.next s.ensures.gave seen (inl refl) (λ is. absurd (cc (is)))
-          (λ is. absurd (living_not_ended _ (sym c.has_ended.ensures.ended ∙ c.if-has_ended.false) is));
-      cause = look_cause (g.G.Sights.faults c.args.sights.now) (g.G.Sights.faults s.new.self) s.result false seen s.ensures.cause;
+      looks = subst (λ (named : Option (ℕ × ℕ)). LooksAt named c.args.pass.now n.new.first v w (is_err l.result)) c.in-Some.ensures.process (record {
+        met = m.new.first;
+        before = watch m.new.second left gave;
+        after = watch l.new.sighter left_now gave_now;
+        learned = m.ensures.first;
+        first = met_once m.new.first c.args.sighter.now m.new.second left gave m.ensures.second m.ensures.equal.0 m.ensures.equal.1 m.ensures.equal.2;
+        took = l.ensures.took;
+        knows = n.ensures.first;
+        second = met_once n.new.first l.new.sighter n.new.second left_now gave_now n.ensures.second n.ensures.equal.0 n.ensures.equal.1 n.ensures.equal.2;
+      });
+      cause = l.ensures.cause;
     }
