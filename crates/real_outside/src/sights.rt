@@ -14,7 +14,9 @@ const PATH: usize = 24;
 
 /// Looks at the processes of the system by `/proc`.
 ///
-/// A process without a file there is gone. Each look opens the file, reads once and closes it.
+/// A process without a file there is gone. Each look opens the file, reads once and closes it. Where
+/// that fails it does so once more: a process that ended between the opening and the reading is gone
+/// then.
 #[derive(Drop)]
 pub struct ProcessSights<'a, R: Files> {
     pub(crate) rt: &'a R,
@@ -30,8 +32,8 @@ fn read_line<R: Files>(rt: &R, pid: u32, buffer: &mut [u8]) -> io::Result<usize>
     fs::open(rt, path.as_str())?.read(buffer)
 }
 
-/// What is seen of the process.
-fn look<R: Files>(rt: &R, pid: u32) -> Sighted {
+/// What is seen of the process at once.
+fn look_once<R: Files>(rt: &R, pid: u32) -> Sighted {
     let mut buffer = [0u8; LINE];
     let count = match read_line(rt, pid, &mut buffer) {
         Ok(count) => count.min(LINE),
@@ -41,6 +43,14 @@ fn look<R: Files>(rt: &R, pid: u32) -> Sighted {
     match read_stat(&buffer[..count]) {
         Ok(line) => Sighted::Alive { start: line.start },
         Err(_) => Sighted::Failed,
+    }
+}
+
+/// What is seen of the process, by a second look where the first failed.
+fn look<R: Files>(rt: &R, pid: u32) -> Sighted {
+    match look_once(rt, pid) {
+        Sighted::Failed => look_once(rt, pid),
+        seen => seen,
     }
 }
 
