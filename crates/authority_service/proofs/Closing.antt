@@ -1,5 +1,5 @@
 -- What a service knows when its journal is closed.
-use Rattle.std.proofs.Common.{◌≡◌, ◌<◌, ◌≤◌, ◌++◌, [], ◌∷◌, List, ℕ, suc, Option, None, Some, Result, Ok, Err, IfSome, IfNone, refl, sym, ap, ◌∙◌, subst, arith}
+use Rattle.std.proofs.Common.{◌≡◌, ◌<◌, ◌≤◌, ◌++◌, [], ◌∷◌, List, ℕ, Bool, true, false, suc, Option, None, Some, Result, Ok, Err, IfSome, IfNone, refl, sym, ap, ◌∙◌, subst, arith}
 use Rattle.std.specs.Option.{option_or}
 use Rattle.std.specs.Result.{result_err}
 use Rattle.std.specs.Prelude.{All, map, length, slice_index_or}
@@ -11,6 +11,7 @@ use Rattle.history_lock.specs.Known.{Known}
 use Rattle.history_lock.specs.declared.machine.EndCause.{EndCause}
 use Rattle.pk_outside.specs.Doors.{DoorTold}
 use Rattle.pk_outside.specs.Links.{LinkBack}
+use Rattle.pk_outside.specs.declared.sights.Sighted.{Sighted}
 use Rattle.pk_outside.specs.Stations.{DoorBack, StationTold}
 use Rattle.authority_model.specs.declared.journal.Item.{Item}
 use Rattle.authority_model.specs.declared.journal.Limits.{Limits}
@@ -34,7 +35,7 @@ use Rattle.service_slots.specs.Ending.{StopsLoader}
 use Rattle.service_slots.specs.Stops.{StopTells}
 use Rattle.authority_service.specs.Causes.{FitsJournal}
 use Rattle.authority_service.specs.Running.{LoadsAll, ended_loader, ended_slot}
-use Rattle.authority_service.specs.Places.{OpensFirst, first_doors}
+use Rattle.authority_service.specs.Places.{OpensFirst, first_doors, sights_left}
 use Rattle.authority_service.specs.declared.top.Unbegun.TheVariants as unbegun
 use Rattle.authority_service.specs.Begun.{IsShort, Objects}
 use Rattle.authority_service.specs.Service.{DoorsBack, slots_of}
@@ -56,7 +57,7 @@ made_same (b ∷ backs) (d ∷ doors) e =
 
 -- the doors that were opened came back
 pub doors_back : (plan : ServePlan) (count : ℕ) (t0 t1 t2 : Option StationTold) (made : List (Option DoorMade)) (doors : List (Option DoorTold))
-    → OpensFirst plan.doors plan.slots count t0 t1 made → ShutsAll t1 t2 doors → map made_of doors ≡ made → DoorsBack plan count t0 t2
+    → OpensFirst plan.doors plan.slots count plan.live t0 t1 made → ShutsAll t1 t2 doors → map made_of doors ≡ made → DoorsBack plan count t0 t2
 doors_back plan count t0 t1 t2 made doors opens shuts same_made = record {
   where_told = (λ now e.
       let (mid, mid_is, backs, doors_are, now_is) = shuts.where_told now e in
@@ -70,25 +71,33 @@ doors_back plan count t0 t1 t2 made doors opens shuts same_made = record {
 }
 
 -- the doors that came back once the doors were opened are all that came back
-pub opened_done : (paths : List DoorPath) (each count : ℕ) (t0 t1 t2 : Option StationTold) (made : List (Option DoorMade)) (most : Option ℕ) → OpensFirst paths each count t0 t1 made → DoorsAreDone most t1 t2 → DoorsAreDone most t0 t2
-opened_done paths each count t0 t1 t2 made most opens after = record {
+pub opened_done : (paths : List DoorPath) (each count : ℕ) (live : Bool) (t0 t1 t2 : Option StationTold) (made : List (Option DoorMade)) (most : Option ℕ) → OpensFirst paths each count live t0 t1 made → DoorsAreDone most t1 t2 → DoorsAreDone most t0 t2
+opened_done paths each count live t0 t1 t2 made most opens after = record {
   where_told = (λ now e.
       let (mid, mid_is, backs, shut, done) = after.where_told now e in
       let (old, old_is, first_is, behind) = opens.where_told mid mid_is in
       (old, old_is, backs, shut ∙ ap (λ (s : StationTold). s.shut ++ backs) behind, done));
 }
 
+-- no slot took sightings
+sights_none : (live : Bool) (sights : List (List Sighted)) → sights_left live sights 0 ≡ sights
+sights_none true sights = refl
+sights_none false sights = refl
+
 -- no door was made
 pub doors_none : (plan : ServePlan) (told : Option StationTold) → DoorsBack plan 0 told told
-doors_none plan told = record { where_told = (λ now e. (now, e, [], ap (λ (s : List DoorBack). record now { shut = s }) (none now.shut), refl)) }
+doors_none plan told = record {
+  where_told = (λ now e.
+      (now, e, [], ap (λ (s : List DoorBack). record now { shut = s }) (none now.shut) ∙ sym (ap (λ (s : List (List Sighted)). record now { shut = now.shut ++ []; sights = s }) (sights_none plan.live now.sights)), refl));
+}
   where
     none : (l : List DoorBack) → l ≡ l ++ []
     none [] = refl
     none (x ∷ xs) = ap (λ (t : List DoorBack). x ∷ t) (none xs)
 
 -- where nothing came back before, nothing had come back once the doors were opened
-pub opened_none : (paths : List DoorPath) (each count : ℕ) (t0 t1 : Option StationTold) (made : List (Option DoorMade)) (H : List Item) → OpensFirst paths each count t0 t1 made → SlotsOf [] t0 [] → SlotsOf H t1 []
-opened_none paths each count t0 t1 made H opens none = record {
+pub opened_none : (paths : List DoorPath) (each count : ℕ) (live : Bool) (t0 t1 : Option StationTold) (made : List (Option DoorMade)) (H : List Item) → OpensFirst paths each count live t0 t1 made → SlotsOf [] t0 [] → SlotsOf H t1 []
+opened_none paths each count live t0 t1 made H opens none = record {
   where_told = (λ now e.
       let (old, old_is, first_is, behind) = opens.where_told now e in
       subst (λ (l : List DoorBack). Slots H l []) (sym (ap (λ (s : StationTold). s.shut) behind)) (unserved old.shut (none.where_told old old_is)));

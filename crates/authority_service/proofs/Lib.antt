@@ -6,3 +6,4 @@ pub mod Serving
 pub mod RunsEnd
 pub mod Joining
 pub mod Promised
+pub mod Unlooked

@@ -24,8 +24,8 @@ may_open Allowed held plan first text is may = may_go_whole Allowed held text (r
 -- once it was written the closing text of what was left may be
 pub may_close : (Allowed : List ℕ → Type 0) (held held_after : Option (List ℕ)) (plan : ServePlan) (first : Loaded) (text : List ℕ) (out : Objects) (history : History) (slots : List ShutSlot) (kept : Option EndCause)
     → text ≡ opening_text plan.audit first → Got held held_after text → HasRun plan first out history slots kept → MayPrintFrom Allowed held plan first
-    → MayClose Allowed held_after plan.audit history (flat_map (λ s. s.lines.items) slots)
-may_close Allowed held held_after plan first text out history slots kept is got run may orderly =
+    → MayClose Allowed held_after plan history (flat_map (λ s. s.lines.items) slots)
+may_close Allowed held held_after plan first text out history slots kept is got run may orderly looks unlisted =
     fronts_more Allowed held held_after (opening_text plan.audit first) (closing_text plan.audit history (flat_map (λ (s : ShutSlot). s.lines.items) slots))
     (may.all (record { journal = history; lines = flat_map (λ (s : ShutSlot). s.lines.items) slots; doors = 0 }) (record {
       legal = run.legal;
@@ -33,5 +33,7 @@ may_close Allowed held held_after plan first text out history slots kept is got 
       licensed = access (items_of history) run.legal.history;
       begins = run.begins;
       orderly = orderly;
+      looks = looks;
+      unlisted = unlisted;
     }))
     (subst (λ (b : List ℕ). Got held held_after b) is got)

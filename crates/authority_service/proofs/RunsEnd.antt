@@ -1,5 +1,5 @@
 -- What a service leaves that ended before its slots were served, and what it leaves when they were.
-use Rattle.std.proofs.Common.{◌≡◌, ◌≢◌, ◌≤◌, [], ◌∷◌, List, ℕ, Option, None, Some, Result, Ok, Err, IfOk, IfSome, IfNone, inl, inr, refl, sym, ◌∙◌, subst, arith}
+use Rattle.std.proofs.Common.{◌≡◌, ◌≢◌, ◌≤◌, [], ◌∷◌, List, ℕ, Bool, Option, None, Some, Result, Ok, Err, IfOk, IfSome, IfNone, inl, inr, refl, sym, ◌∙◌, subst, arith}
 use Rattle.std.specs.Prelude.{All, length, slice_index_or}
 use Rattle.std.specs.List.{flat_map}
 use mathlib.Core.List.{IsPrefix}
@@ -120,5 +120,5 @@ pub fits_same : (a b : Limits) (cause : EndCause) (journal : List Item) → a �
 fits_same a b cause journal same fits = subst (λ (l : Limits). FitsJournal l cause journal) (sym same) fits
 
 -- the same doors
-pub opens_at : (a b : List DoorPath) (each count : ℕ) (t0 t1 : Option StationTold) (made : List (Option DoorMade)) → a ≡ b → OpensFirst a each count t0 t1 made → OpensFirst b each count t0 t1 made
-opens_at a b each count t0 t1 made same opens = subst (λ (ps : List DoorPath). OpensFirst ps each count t0 t1 made) same opens
+pub opens_at : (a b : List DoorPath) (each count : ℕ) (live : Bool) (t0 t1 : Option StationTold) (made : List (Option DoorMade)) → a ≡ b → OpensFirst a each count live t0 t1 made → OpensFirst b each count live t0 t1 made
+opens_at a b each count live t0 t1 made same opens = subst (λ (ps : List DoorPath). OpensFirst ps each count live t0 t1 made) same opens

@@ -1,6 +1,6 @@
 -- What a service does, by how it ended.
 use Rattle.std.proofs.Common.{◌≡◌, ◌≤◌, ◌++◌, ◌⊎◌, [], ◌∷◌, List, ℕ, Bool, true, false, Option, None, Some, Err, IfSome, inl, inr, refl, sym, ap, ◌∙◌, subst, append_assoc, append-nil, arith}
-use Rattle.std.specs.Prelude.{All, length, ◌||◌}
+use Rattle.std.specs.Prelude.{All, length, map, ◌||◌}
 use Rattle.std.specs.List.{flat_map, list_any}
 use Rattle.std.proofs.lemmas.Bool.{or_parts}
 use Rattle.std.proofs.lemmas.List.Elements.{All-append, All-cons, All-head, All-tail, All-nil}
@@ -13,7 +13,7 @@ use Rattle.authority_model.specs.declared.journal.Limits.{Limits}
 use Rattle.authority_model.specs.declared.journal.Item.{Item}
 use Rattle.authority_model.specs.declared.load.Loaded.{Loaded}
 use Rattle.authority_model.specs.Items.{items_of}
-use Rattle.pk_outside.specs.Causes.{Rose}
+use Rattle.pk_outside.specs.Causes.{Rose, one_more}
 use Rattle.pk_outside.specs.Streams.{Got, GotFront}
 use Rattle.serve_words.specs.declared.plan.ServePlan.{ServePlan}
 use Rattle.service_slots.specs.declared.line.Line.{Line}
@@ -31,9 +31,10 @@ use Rattle.authority_service.specs.Begun.{HasRun, IsShort, Objects}
 use Rattle.authority_service.specs.Ends.{end_of_refused}
 use Rattle.authority_service.specs.Lines.{closing_text, opening_text}
 use Rattle.authority_service.specs.Printing.{IsSound, WasPrinted, WasUntold, WrittenAs}
+use Rattle.authority_service.specs.Looks.{NeverLooked}
 use Rattle.authority_service.specs.Running.{ended_slot}
-use Rattle.authority_service.proofs.ShutDoors.{rose_before}
-use Rattle.authority_service.specs.Service.{AllServed, HasServed, IsFirst, IsLeft, IsUnbegun, IsUntouched, IsWritten, Left, Outside, Serves, WasWhole, end_of, has_failed_door, has_no_memory, printed}
+use Rattle.authority_service.proofs.Unlooked.{all_unlooked, never_both, slots_unlooked, unlooked}
+use Rattle.authority_service.specs.Service.{AllServed, CanAdmitAll, FailedOnce, HasServed, IsFirst, IsLeft, IsUnbegun, IsUntouched, IsWritten, Left, Outside, Serves, WasCutShort, WasWhole, end_of, has_failed_door, has_no_memory, printed}
 
 -- some bytes were got, and then others
 pub got_both : (h0 h1 h2 : Option (List ℕ)) (a b : List ℕ) → Got h0 h1 a → Got h1 h2 b → Got h0 h2 (a ++ b)
@@ -123,19 +124,25 @@ all_served limits most w from now (s ∷ slots) stops none memory failed =
 -- the text that was written is a front of all that is written
 wrote_front : (plan : ServePlan) (first : Loaded) (left : Left) (h0 h1 h2 : Option (List ℕ)) (f0 f1 : ℕ) (written : Bool)
     → Got h0 h1 (opening_text plan.audit first) → WrittenAs h1 h2 f0 f1 (closing_text plan.audit left.journal left.lines) written → GotFront h0 h2 (printed plan first left)
-wrote_front plan first left h0 h1 h2 f0 f1 true before wrote = got_front h0 h2 (printed plan first left) (got_both h0 h1 h2 (opening_text plan.audit first) (closing_text plan.audit left.journal left.lines) before wrote)
+wrote_front plan first left h0 h1 h2 f0 f1 true before wrote = got_front h0 h2 (printed plan first left) (got_both h0 h1 h2 (opening_text plan.audit first) (closing_text plan.audit left.journal left.lines) before wrote.0)
 wrote_front plan first left h0 h1 h2 f0 f1 false before wrote = front_both h0 h1 h2 (opening_text plan.audit first) (closing_text plan.audit left.journal left.lines) before wrote.0
 
 -- the whole text was written
 wrote_whole : (plan : ServePlan) (first : Loaded) (left : Left) (h0 h1 h2 : Option (List ℕ)) (f0 f1 : ℕ)
     → Got h0 h1 (opening_text plan.audit first) → WrittenAs h1 h2 f0 f1 (closing_text plan.audit left.journal left.lines) true → Got h0 h2 (printed plan first left)
-wrote_whole plan first left h0 h1 h2 f0 f1 before wrote = got_both h0 h1 h2 (opening_text plan.audit first) (closing_text plan.audit left.journal left.lines) before wrote
+wrote_whole plan first left h0 h1 h2 f0 f1 before wrote = got_both h0 h1 h2 (opening_text plan.audit first) (closing_text plan.audit left.journal left.lines) before wrote.0
 
--- the text was written whole, or a front of it was and then the output counted a fault
+-- the output counted no fault, or one
+wrote_faults : (out : Outside) (h1 : Option (List ℕ)) (faults : ℕ) (text : List ℕ) (written : Bool)
+    → faults ≡ out.write_faults_before → WrittenAs h1 out.held faults out.write_faults text written → (out.write_faults ≡ out.write_faults_before) ⊎ FailedOnce out
+wrote_faults out h1 faults text true same wrote = inl (wrote.1 ∙ same)
+wrote_faults out h1 faults text false same wrote = inr (wrote.1 ∙ ap one_more same)
+
+-- the text was written whole and without a fault, or a front of it was, and the output counted one fault
 wrote_so : (plan : ServePlan) (first : Loaded) (left : Left) (out : Outside) (h1 : Option (List ℕ)) (faults : ℕ) (written : Bool)
-    → Got out.held_before h1 (opening_text plan.audit first) → out.write_faults_before ≤ faults → WrittenAs h1 out.held faults out.write_faults (closing_text plan.audit left.journal left.lines) written → IsWritten out (printed plan first left)
-wrote_so plan first left out h1 faults true before later wrote = inl (wrote_whole plan first left out.held_before h1 out.held faults out.write_faults before wrote)
-wrote_so plan first left out h1 faults false before later wrote = inr (wrote_front plan first left out.held_before h1 out.held faults out.write_faults false before wrote, rose_before out.write_faults_before faults out.write_faults later wrote.1)
+    → Got out.held_before h1 (opening_text plan.audit first) → faults ≡ out.write_faults_before → WrittenAs h1 out.held faults out.write_faults (closing_text plan.audit left.journal left.lines) written → IsWritten out (printed plan first left)
+wrote_so plan first left out h1 faults true before same wrote = inl (wrote_whole plan first left out.held_before h1 out.held faults out.write_faults before wrote, wrote.1 ∙ same)
+wrote_so plan first left out h1 faults false before same wrote = inr (wrote_front plan first left out.held_before h1 out.held faults out.write_faults false before wrote, wrote.1 ∙ ap one_more same)
 
 -- the tree and the station of a service
 abbrev pub objects_of : Outside → Objects
@@ -157,12 +164,31 @@ lines_or slots (inl none) = inl (ap (flat_map (λ (s : ShutSlot). s.lines.items)
 lines_or slots (inr holds) = inr holds
 
 -- what holds of what was left
-is_left : (plan : ServePlan) (first : Loaded) (out : Outside) (history : History) (slots : List ShutSlot) (kept : Option EndCause) (run : HasRun plan first (objects_of out) history slots kept) → IsLeft plan out (left_of history slots run.doors)
-is_left plan first out history slots kept run = record { legal = run.legal; within = run.within; licensed = access (items_of history) run.legal.history; slots = run.served; doors = run.back; loaded = lines_or slots run.loaded }
+is_left : (plan : ServePlan) (first : Loaded) (out : Outside) (history : History) (slots : List ShutSlot) (kept : Option EndCause) (run : HasRun plan first (objects_of out) history slots kept)
+    → (plan.live ≡ false → All NeverLooked (flat_map (λ s. s.lines.items) slots)) → IsLeft plan out (left_of history slots run.doors)
+is_left plan first out history slots kept run looks = record { legal = run.legal; within = run.within; licensed = access (items_of history) run.legal.history; slots = run.served; doors = run.back; loaded = lines_or slots run.loaded; looks = looks }
+
+-- The same where the lines were not looked through. Unless the plan is live, each line stands there without a look: what a line says of its connection holds of this one too.
+untold_left : (plan : ServePlan) (first : Loaded) (out : Outside) (history : History) (slots : List ShutSlot) (kept : Option EndCause) (run : HasRun plan first (objects_of out) history slots kept) (live : Bool)
+    → plan.live ≡ live → (lines : List Line) × IsLeft plan out (record { journal = history; lines = lines; doors = run.doors })
+untold_left plan first out history slots kept run true is =
+    (flat_map (λ (s : ShutSlot). s.lines.items) slots, is_left plan first out history slots kept run (λ no. never_both plan.live is no))
+untold_left plan first out history slots kept run false is =
+    let lines = flat_map (λ (s : ShutSlot). s.lines.items) slots in
+    (map unlooked lines, record { legal = run.legal; within = run.within; licensed = access (items_of history) run.legal.history; slots = (λ none. slots_unlooked _ out.station lines (run.served none)); doors = run.back; loaded = unlooked_or lines (lines_or slots run.loaded); looks = (λ no. all_unlooked lines) })
+  where
+    unlooked_or : {P : Type 0} (lines : List Line) → (lines ≡ []) ⊎ P → (map unlooked lines ≡ []) ⊎ P
+    unlooked_or lines (inl none) = inl (ap (map unlooked) none)
+    unlooked_or lines (inr holds) = inr holds
+
+-- more slots have as many passes
+admits_more : (live : Bool) (lines few many : ℕ) → few ≤ many → CanAdmitAll live lines few → CanAdmitAll live lines many
+admits_more true lines few many le admits = omega (arith, le, admits)
+admits_more false lines few many le admits = omega (arith, le, admits)
 
 -- the lock was not ended
 was_whole : (plan : ServePlan) (first : Loaded) (out : Outside) (history : History) (slots : List ShutSlot) (run : HasRun plan first (objects_of out) history slots None)
-    → IsSound (items_of history) (flat_map (λ s. s.lines.items) slots) (length slots) None → WasWhole plan out (left_of history slots run.doors)
+    → IsSound plan.live (items_of history) (flat_map (λ s. s.lines.items) slots) (length slots) None → WasWhole plan out (left_of history slots run.doors)
 was_whole plan first out history slots run told =
     let whole = run.whole refl in
     record {
@@ -181,66 +207,81 @@ doors_done plan first out history slots run memory failed =
 
 -- the service was served, and its text was written
 served_so : (plan : ServePlan) (first : Loaded) (out : Outside) (history : History) (slots : List ShutSlot) (kept : Option EndCause) (run : HasRun plan first (objects_of out) history slots kept)
-    → IsFirst plan out first → IsSound (items_of history) (flat_map (λ s. s.lines.items) slots) (length slots) kept
+    → IsFirst plan out first → IsSound plan.live (items_of history) (flat_map (λ s. s.lines.items) slots) (length slots) kept
     → IsWritten out (printed plan first (left_of history slots run.doors)) → HasServed plan out first (left_of history slots run.doors)
 served_so plan first out history slots kept run is_first told written = record {
   is_first = is_first;
-  is_left = is_left plan first out history slots kept run;
+  is_left = is_left plan first out history slots kept run told.looks;
   begins = run.begins;
   orderly = told.orderly;
+  unlisted = told.unlisted;
   written = written;
 }
 
+-- memory was refused once the lines were looked through
+cut_short : (plan : ServePlan) (first : Loaded) (out : Outside) (history : History) (slots : List ShutSlot) (kept : Option EndCause) (h1 : Option (List ℕ)) (faults : ℕ) (run : HasRun plan first (objects_of out) history slots kept)
+    → IsFirst plan out first → IsSound plan.live (items_of history) (flat_map (λ s. s.lines.items) slots) (length slots) kept
+    → Got out.held_before h1 (opening_text plan.audit first) → faults ≡ out.write_faults_before
+    → (written : Bool) → WrittenAs h1 out.held faults out.write_faults (closing_text plan.audit history (flat_map (λ s. s.lines.items) slots)) written → WasCutShort plan out
+cut_short plan first out history slots kept h1 faults run is_first told before same written wrote =
+    let left = left_of history slots run.doors in
+    record {
+      first = first;
+      is_first = is_first;
+      left = left;
+      is_left = is_left plan first out history slots kept run told.looks;
+      begins = run.begins;
+      written = wrote_front plan first left out.held_before h1 out.held faults out.write_faults written before wrote;
+      faults = wrote_faults out h1 faults (closing_text plan.audit history left.lines) written same wrote;
+    }
+
 -- how the service ended, by the kept cause, by whether memory was refused to a slot, by whether a door failed, and by whether all was written
 serves_by : (plan : ServePlan) (first : Loaded) (out : Outside) (history : History) (slots : List ShutSlot) (kept : Option EndCause) (h1 : Option (List ℕ)) (faults : ℕ) (run : HasRun plan first (objects_of out) history slots kept)
-    → IsFirst plan out first → IsSound (items_of history) (flat_map (λ s. s.lines.items) slots) (length slots) kept
-    → Got out.held_before h1 (opening_text plan.audit first) → out.write_faults_before ≤ faults
+    → IsFirst plan out first → IsSound plan.live (items_of history) (flat_map (λ s. s.lines.items) slots) (length slots) kept
+    → Got out.held_before h1 (opening_text plan.audit first) → faults ≡ out.write_faults_before
     → (no_memory failed written : Bool) → list_any (λ s. has_no_memory s.stop) slots ≡ no_memory → list_any (λ s. has_failed_door s.stop) slots ≡ failed
     → WrittenAs h1 out.held faults out.write_faults (closing_text plan.audit history (flat_map (λ s. s.lines.items) slots)) written → Serves plan out (end_of kept slots written)
-serves_by plan first out history slots (Some (cause.JournalFull entries bytes)) h1 faults run is_first told before later no_memory failed written n d wrote =
+serves_by plan first out history slots (Some (cause.JournalFull entries bytes)) h1 faults run is_first told before same no_memory failed written n d wrote =
     let left = left_of history slots run.doors in
-    record { first = first; left = left; served = served_so plan first out history slots (Some (cause.JournalFull entries bytes)) run is_first told (wrote_so plan first left out h1 faults written before later wrote); more = run.cause }
-serves_by plan first out history slots (Some (cause.Admissions admitted)) h1 faults run is_first told before later no_memory failed written n d wrote =
+    record { first = first; left = left; served = served_so plan first out history slots (Some (cause.JournalFull entries bytes)) run is_first told (wrote_so plan first left out h1 faults written before same wrote); more = run.cause }
+serves_by plan first out history slots (Some (cause.Admissions admitted)) h1 faults run is_first told before same no_memory failed written n d wrote =
     let left = left_of history slots run.doors in
     let few = run.few in
     let many = told.passes admitted refl in
-    record { first = first; left = left; served = served_so plan first out history slots (Some (cause.Admissions admitted)) run is_first told (wrote_so plan first left out h1 faults written before later wrote); more = (run.cause, omega (arith, few, many)) }
-serves_by plan first out history slots (Some cause.NoMemory) h1 faults run is_first told before later no_memory failed written n d wrote =
-    let left = left_of history slots run.doors in
-    inr (inr (record { first = first; is_first = is_first; left = left; is_left = is_left plan first out history slots (Some cause.NoMemory) run; begins = run.begins; written = wrote_front plan first left out.held_before h1 out.held faults out.write_faults written before wrote }))
-serves_by plan first out history slots None h1 faults run is_first told before later true failed written n d wrote =
-    let left = left_of history slots run.doors in
-    rw n (inr (inr (record { first = first; is_first = is_first; left = left; is_left = is_left plan first out history slots None run; begins = run.begins; written = wrote_front plan first left out.held_before h1 out.held faults out.write_faults written before wrote })))
-serves_by plan first out history slots None h1 faults run is_first told before later false true written n d wrote =
+    record { first = first; left = left; served = served_so plan first out history slots (Some (cause.Admissions admitted)) run is_first told (wrote_so plan first left out h1 faults written before same wrote); more = (run.cause, admits_more plan.live (length left.lines) (length slots) _ few many) }
+serves_by plan first out history slots (Some cause.NoMemory) h1 faults run is_first told before same no_memory failed written n d wrote =
+    inr (inr (cut_short plan first out history slots (Some cause.NoMemory) h1 faults run is_first told before same written wrote))
+serves_by plan first out history slots None h1 faults run is_first told before same true failed written n d wrote =
+    rw n (inr (inr (cut_short plan first out history slots None h1 faults run is_first told before same written wrote)))
+serves_by plan first out history slots None h1 faults run is_first told before same false true written n d wrote =
     let left = left_of history slots run.doors in
     let whole = run.whole refl in
     rw (n, d) (
       any_rose plan.limits plan.stop_after whole.stopped.known out.station_faults_before out.station_faults slots whole.stopped.stops d,
-      inr (record { first = first; left = left; served = served_so plan first out history slots None run is_first told (wrote_so plan first left out h1 faults written before later wrote); more = was_whole plan first out history slots run told }),
+      inr (record { first = first; left = left; served = served_so plan first out history slots None run is_first told (wrote_so plan first left out h1 faults written before same wrote); more = was_whole plan first out history slots run told }),
     )
-serves_by plan first out history slots None h1 faults run is_first told before later false false true n d wrote =
+serves_by plan first out history slots None h1 faults run is_first told before same false false true n d wrote =
     let left = left_of history slots run.doors in
-    rw (n, d) (record { first = first; left = left; served = served_so plan first out history slots None run is_first told (wrote_so plan first left out h1 faults true before later wrote); more = (was_whole plan first out history slots run told, doors_done plan first out history slots run n d, wrote_whole plan first left out.held_before h1 out.held faults out.write_faults before wrote) })
-serves_by plan first out history slots None h1 faults run is_first told before later false false false n d wrote =
+    rw (n, d) (record { first = first; left = left; served = served_so plan first out history slots None run is_first told (wrote_so plan first left out h1 faults true before same wrote); more = (was_whole plan first out history slots run told, doors_done plan first out history slots run n d, (wrote_whole plan first left out.held_before h1 out.held faults out.write_faults before wrote, wrote.1 ∙ same)) })
+serves_by plan first out history slots None h1 faults run is_first told before same false false false n d wrote =
     let left = left_of history slots run.doors in
-    let rose = wrote.1 in
     rw (n, d) (
-      omega (arith, later, rose),
-      inr (record { first = first; left = left; served = served_so plan first out history slots None run is_first told (wrote_so plan first left out h1 faults false before later wrote); more = (was_whole plan first out history slots run told, doors_done plan first out history slots run n d) }),
+      wrote.1 ∙ ap one_more same,
+      inr (record { first = first; left = left; served = served_so plan first out history slots None run is_first told (wrote_so plan first left out h1 faults false before same wrote); more = (was_whole plan first out history slots run told, doors_done plan first out history slots run n d) }),
     )
 
 -- a service whose slots ended, once its lines were printed
 pub serves_told : (plan : ServePlan) (first : Loaded) (out : Outside) (history : History) (slots : List ShutSlot) (kept : Option EndCause) (h1 : Option (List ℕ)) (faults : ℕ) (e : ServiceEnd)
-    → HasRun plan first (objects_of out) history slots kept → IsFirst plan out first → Got out.held_before h1 (opening_text plan.audit first) → out.write_faults_before ≤ faults
-    → WasUntold h1 out.held e ⊎ WasPrinted plan.audit history (flat_map (λ s. s.lines.items) slots) kept slots h1 out.held faults out.write_faults e
+    → HasRun plan first (objects_of out) history slots kept → IsFirst plan out first → Got out.held_before h1 (opening_text plan.audit first) → faults ≡ out.write_faults_before
+    → WasUntold h1 out.held faults out.write_faults e ⊎ WasPrinted plan.live plan.audit history (flat_map (λ s. s.lines.items) slots) kept slots h1 out.held faults out.write_faults e
     → Serves plan out e
-serves_told plan first out history slots kept h1 faults e run is_first before later (inl untold) =
-    let left = left_of history slots run.doors in
+serves_told plan first out history slots kept h1 faults e run is_first before same (inl untold) =
+    let (lines, is_left) = untold_left plan first out history slots kept run plan.live refl in
     subst (λ (x : ServiceEnd). Serves plan out x) (sym untold.end_is)
-    (inr (inr (record { first = first; is_first = is_first; left = left; is_left = is_left plan first out history slots kept run; begins = run.begins; written = front_only out.held_before h1 out.held (opening_text plan.audit first) (closing_text plan.audit history left.lines) before untold.same })))
-serves_told plan first out history slots kept h1 faults e run is_first before later (inr told) =
+    (inr (inr (record { first = first; is_first = is_first; left = record { journal = history; lines = lines; doors = run.doors }; is_left = is_left; begins = run.begins; written = front_only out.held_before h1 out.held (opening_text plan.audit first) (closing_text plan.audit history lines) before untold.same; faults = inl (untold.quiet ∙ same) })))
+serves_told plan first out history slots kept h1 faults e run is_first before same (inr told) =
     subst (λ (x : ServiceEnd). Serves plan out x) (sym told.end_is)
-    (serves_by plan first out history slots kept h1 faults run is_first told.sound before later (list_any (λ s. has_no_memory s.stop) slots) (list_any (λ s. has_failed_door s.stop) slots) told.written refl refl told.wrote)
+    (serves_by plan first out history slots kept h1 faults run is_first told.sound before same (list_any (λ s. has_no_memory s.stop) slots) (list_any (λ s. has_failed_door s.stop) slots) told.written refl refl told.wrote)
 
 -- a service that was cut short before there was a connection
 pub unbegun_short : (plan : ServePlan) (first : Loaded) (out : Outside) (objects : Objects) (why : Unbegun) → objects.station_before ≡ out.station_before → objects.station ≡ out.station

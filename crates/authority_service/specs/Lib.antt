@@ -4,6 +4,7 @@ pub mod Causes
 pub mod Beginning
 pub mod Running
 pub mod Lines
+pub mod Looks
 pub mod Service
 pub mod Printing
 pub mod Begun

@@ -1,5 +1,5 @@
 -- What a service prints of its closed journal.
-use Rattle.std.specs.Prelude.{ℕ, Bool, true, false, List, [], ◌∷◌, ◌++◌, codes}
+use Rattle.std.specs.Prelude.{ℕ, Bool, true, false, List, [], ◌∷◌, ◌++◌, None, codes}
 use Rattle.std.specs.Fmt.{decimal}
 use Rattle.std.specs.List.{flat_map}
 use Rattle.authority_model.specs.declared.journal.History.{History}
@@ -10,23 +10,30 @@ use Rattle.audit_text.specs.Audit.{audit_text}
 use Rattle.scenario_text.specs.Skipped.{skipped_lines}
 use Rattle.connection_serve.specs.declared.ends.End.{End}
 use Rattle.connection_serve.specs.declared.ends.End.TheVariants as end
+use Rattle.connection_serve.specs.declared.ends.LiveEnd.{LiveEnd}
+use Rattle.connection_serve.specs.declared.ends.LiveEnd.TheVariants as live
 use Rattle.journal_scan.specs.declared.counts.Tally.{Tally}
 use Rattle.journal_scan.specs.declared.counts.Totals.{Totals}
 use Rattle.journal_scan.specs.declared.lines.ConnectionLine.{ConnectionLine}
 use Rattle.journal_scan.specs.Counts.{tally_of, totals_of}
 use Rattle.service_slots.specs.declared.line.Line.{Line}
 
+-- the word for how a connection ended, where no look at a process failed
+abbrev pub plain_word : End → List ℕ
+plain_word (end.Ended cause) = codes "ended"
+plain_word end.WriteFault = codes "write-fault"
+plain_word end.ReadFault = codes "read-fault"
+plain_word (end.BadShake fault) = codes "bad-handshake"
+plain_word end.ShakeCut = codes "bad-handshake"
+plain_word (end.BadBytes _ at) = codes "bad-bytes"
+plain_word (end.Truncated rest) = codes "truncated"
+plain_word end.Done = codes "done"
+plain_word end.NoMemory = codes "no-memory"
+
 -- the word for how a connection ended
-abbrev pub end_word : End → List ℕ
-end_word (end.Ended cause) = codes "ended"
-end_word end.WriteFault = codes "write-fault"
-end_word end.ReadFault = codes "read-fault"
-end_word (end.BadShake fault) = codes "bad-handshake"
-end_word end.ShakeCut = codes "bad-handshake"
-end_word (end.BadBytes _ at) = codes "bad-bytes"
-end_word (end.Truncated rest) = codes "truncated"
-end_word end.Done = codes "done"
-end_word end.NoMemory = codes "no-memory"
+abbrev pub end_word : LiveEnd → List ℕ
+end_word live.SightFault = codes "sight-fault"
+end_word (live.Plain e) = plain_word e
 
 -- `connection N UID END MESSAGES ANSWERS`
 abbrev pub connection_line : Line → Tally → List ℕ
@@ -58,4 +65,4 @@ closing_text false journal lines = service_text (items_of journal) lines
 
 -- what a `connection` line tells to whoever looks through the journal
 abbrev pub scanned : Line → ConnectionLine
-scanned line = record { number = line.number; uid = line.uid }
+scanned line = record { number = line.number; uid = line.uid; sighter = line.sighter }

@@ -1,17 +1,28 @@
 -- Which doors the slots of a plan have, in their order.
-use Rattle.std.specs.Prelude.{◌≡◌, ◌++◌, ◌/◌, ◌%◌, [], ◌∷◌, ℕ, zero, suc, List, Option, Some, map, slice_index_or}
+use Rattle.std.specs.Prelude.{◌≡◌, ◌++◌, ◌/◌, ◌%◌, [], ◌∷◌, ℕ, Bool, true, false, zero, suc, List, Option, Some, map, slice_index_or}
+use Rattle.pk_outside.specs.declared.sights.Sighted.{Sighted}
 use Rattle.pk_outside.specs.Stations.{StationTold, first_list, other_lists}
 use Rattle.command_line.specs.declared.door.DoorPath.{DoorPath}
 use Rattle.service_slots.specs.Doors.{DoorMade}
 
--- what a station has left to give behind so many doors, clocks or salts
+-- what a station has left to give behind so many doors, clocks, salts or looks at processes
 abbrev pub lists_behind : {A : Type 0} → List (List A) → ℕ → List (List A)
 lists_behind lists zero = lists
 lists_behind lists (suc k) = other_lists (lists_behind lists k)
 
--- a station that made so many doors, each with a clock and a salt, and nothing else
-abbrev pub opened_behind : StationTold → ℕ → StationTold
-opened_behind old k = record old { doors = lists_behind old.doors k; clocks = lists_behind old.clocks k; salts = lists_behind old.salts k }
+-- The sightings that a station has left behind so many slots: each slot of live connections took one list of them, and no other slot took any.
+abbrev pub sights_left : Bool → List (List Sighted) → ℕ → List (List Sighted)
+sights_left true sights k = lists_behind sights k
+sights_left false sights k = sights
+
+-- a station that made so many doors, each with a clock and a salt, and with looks at processes if they are live, and nothing else
+abbrev pub opened_behind : Bool → StationTold → ℕ → StationTold
+opened_behind live old k = record old {
+  doors = lists_behind old.doors k;
+  clocks = lists_behind old.clocks k;
+  salts = lists_behind old.salts k;
+  sights = sights_left live old.sights k;
+}
 
 -- a path that no plan has
 abbrev pub no_path : DoorPath
@@ -31,9 +42,9 @@ abbrev pub first_doors : List DoorPath → ℕ → List (List (List ℕ)) → �
 first_doors paths each links zero = []
 first_doors paths each links (suc k) = first_doors paths each links k ++ nth_door paths each links k ∷ []
 
--- The doors of the first k slots were made at a station, in their order, each with a clock and a salt, and nothing else; and nothing came back to it.
-pub record OpensFirst (paths : List DoorPath) (each k : ℕ) (before after : Option StationTold) (made : List (Option DoorMade)) : Type 0 where
+-- The doors of the first k slots were made at a station, in their order, each with a clock and a salt, and with looks at processes if they are live, and nothing else; and nothing came back to it.
+pub record OpensFirst (paths : List DoorPath) (each k : ℕ) (live : Bool) (before after : Option StationTold) (made : List (Option DoorMade)) : Type 0 where
   pub where_told : (now : StationTold) → after ≡ Some now
       → (old : StationTold) × (before ≡ Some old)
       × (made ≡ map (λ door. Some door) (first_doors paths each old.doors k))
-      × (now ≡ opened_behind old k)
+      × (now ≡ opened_behind live old k)

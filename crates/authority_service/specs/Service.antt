@@ -1,5 +1,5 @@
 -- What a service does, by how it ended.
-use Rattle.std.specs.Prelude.{◌≡◌, ◌⊎◌, ◌++◌, ◌*◌, ◌+◌, ◌≤◌, ℕ, Bool, true, false, if◌then◌else◌, List, [], Option, None, Some, Ok, Err, IfSome, length, map}
+use Rattle.std.specs.Prelude.{◌≡◌, ◌⊎◌, ◌++◌, ◌*◌, ◌+◌, ◌≤◌, ℕ, Bool, true, false, if◌then◌else◌, List, [], Option, None, Some, Ok, Err, IfSome, All, length, map}
 use Rattle.std.specs.List.{list_any}
 use Rattle.authority_laws.specs.Batches.{in_order}
 use Rattle.authority_model.specs.declared.journal.History.{History}
@@ -12,7 +12,7 @@ use Rattle.journal_scan.specs.declared.counts.Totals.{Totals}
 use Rattle.journal_scan.specs.declared.counts.TheConstants.{PLACES}
 use Rattle.journal_scan.specs.Counts.{totals_of}
 use Rattle.journal_scan.specs.Orderly.{IsOrderly}
-use Rattle.pk_outside.specs.Causes.{Rose}
+use Rattle.pk_outside.specs.Causes.{Rose, one_more}
 use Rattle.pk_outside.specs.Stations.{DoorBack, StationTold}
 use Rattle.pk_outside.specs.Streams.{Got, GotFront}
 use Rattle.pk_outside.specs.Trees.{TreeTold}
@@ -31,6 +31,7 @@ use Rattle.authority_service.specs.declared.ends.ServiceEnd.TheVariants as end
 use Rattle.authority_service.specs.Beginning.{BeginsWith}
 use Rattle.authority_service.specs.Causes.{FitsJournal}
 use Rattle.authority_service.specs.Lines.{closing_text, opening_text, scanned}
+use Rattle.authority_service.specs.Looks.{HasNoUnlisted, NeverLooked}
 use Rattle.authority_service.specs.Places.{first_doors, opened_behind}
 use Rattle.authority_service.specs.Running.{HasLoaded, LoadsAll}
 
@@ -70,13 +71,13 @@ pub record Left : Type 0 where
   pub lines : List Line
   pub doors : ℕ
 
--- The station made the first `count` doors of the plan, each with a clock and a salt, and nothing else. They came back, behind those before, in their order: one for each slot. No link was dialled, and no file was made.
+-- The station made the first `count` doors of the plan, each with a clock and a salt, and with looks at processes if the plan is live, and nothing else. They came back, behind those before, in their order: one for each slot. No link was dialled, and no file was made.
 pub record DoorsBack (plan : ServePlan) (count : ℕ) (before after : Option StationTold) : Type 0 where
   pub where_told : (now : StationTold) → after ≡ Some now
       → (old : StationTold) × (before ≡ Some old) × (backs : List DoorBack)
-      × (now ≡ record (opened_behind old count) { shut = old.shut ++ backs }) × (map (λ back. door_made back.door) backs ≡ first_doors plan.doors plan.slots old.doors count)
+      × (now ≡ record (opened_behind plan.live old count) { shut = old.shut ++ backs }) × (map (λ back. door_made back.door) backs ≡ first_doors plan.doors plan.slots old.doors count)
 
--- What holds of the journal and of the lines, whatever the end: the journal is legal and has no more entries than the plan allows, each yes in it is licensed, each line speaks of the link that came back in its place, and where there is a line the loader loaded until it ended.
+-- What holds of the journal and of the lines, whatever the end: the journal is legal and has no more entries than the plan allows, each yes in it is licensed, each line speaks of the link that came back in its place, and where there is a line the loader loaded until it ended. Unless the plan is live no connection looked at a process.
 pub record IsLeft (plan : ServePlan) (out : Outside) (left : Left) : Type 0 where
   pub legal : IsJournal (in_order left.journal)
   pub within : length left.journal.entries ≤ plan.limits.entries
@@ -85,14 +86,23 @@ pub record IsLeft (plan : ServePlan) (out : Outside) (left : Left) : Type 0 wher
   pub slots : SlotsOf [] out.station_before [] → SlotsOf (in_order left.journal) out.station left.lines
   pub doors : DoorsBack plan left.doors out.station_before out.station
   pub loaded : (left.lines ≡ []) ⊎ HasLoaded plan.limits out.tree plan.root (in_order left.journal)
+  pub looks : plan.live ≡ false → All NeverLooked left.lines
 
 -- what a service writes: what the first load skipped, and then the lines of the journal and of the connections; or in place of all of these the audit text of the journal
 abbrev pub printed : ServePlan → Loaded → Left → List ℕ
 printed plan first left = opening_text plan.audit first ++ closing_text plan.audit left.journal left.lines
 
--- The text was written whole, or a front of it was, and then the output counted a fault.
+-- the output counted one fault
+abbrev pub FailedOnce : Outside → Type 0
+FailedOnce out = out.write_faults ≡ one_more out.write_faults_before
+
+-- the text was written whole, and the output counted no fault
+abbrev pub Wrote : Outside → List ℕ → Type 0
+Wrote out text = Got out.held_before out.held text × (out.write_faults ≡ out.write_faults_before)
+
+-- The text was written whole and without a fault, or a front of it was, and the output counted one fault.
 abbrev pub IsWritten : Outside → List ℕ → Type 0
-IsWritten out text = Got out.held_before out.held text ⊎ (GotFront out.held_before out.held text × Rose out.write_faults_before out.write_faults)
+IsWritten out text = Wrote out text ⊎ (GotFront out.held_before out.held text × FailedOnce out)
 
 -- the first load is that of the tree, where the tree tells its files
 abbrev pub IsFirst : ServePlan → Outside → Loaded → Type 0
@@ -104,15 +114,16 @@ pub record HasServed (plan : ServePlan) (out : Outside) (first : Loaded) (left :
   pub is_left : IsLeft plan out left
   pub begins : BeginsWith first (in_order left.journal)
   pub orderly : IsOrderly (map scanned left.lines) (items_of left.journal)
+  pub unlisted : plan.live ≡ false → HasNoUnlisted (items_of left.journal)
   pub written : IsWritten out (printed plan first left)
 
 -- how many slots a plan has
 abbrev pub slots_of : ServePlan → ℕ
 slots_of plan = length plan.doors * plan.slots
 
--- as many loads were made as were wanted before the Stop, besides the first
+-- As many loads were made as were wanted before the Stop, besides the first and those by which a connection's sighter took a process out.
 abbrev pub AreAllLoads : Totals → Type 0
-AreAllLoads totals = totals.loads + totals.refused ≡ totals.wanted + 1
+AreAllLoads totals = totals.loads + totals.refused ≡ totals.wanted + 1 + totals.unlisted
 
 -- The lock was not ended: each slot had its door, no connection was ended by the lock, and the loader loaded to its end.
 pub record WasWhole (plan : ServePlan) (out : Outside) (left : Left) : Type 0 where
@@ -125,15 +136,25 @@ pub record WasWhole (plan : ServePlan) (out : Outside) (left : Left) : Type 0 wh
 abbrev pub AllServed : ServePlan → Outside → Type 0
 AllServed plan out = DoorsAreDone plan.stop_after out.station_before out.station
 
+-- How many passes are made at most for so many connections and slots. A slot has one, and two for each connection and for the next that it waits for; live connections have a third. The loader and the service have one each.
+abbrev pub most_passes : Bool → ℕ → ℕ → ℕ
+most_passes true lines slots = 3 * lines + 4 * slots + 2
+most_passes false lines slots = 2 * lines + 3 * slots + 2
+
+-- all passes can have been made for so many connections and slots
+abbrev pub CanAdmitAll : Bool → ℕ → ℕ → Type 0
+CanAdmitAll live lines slots = PLACES ≤ most_passes live lines slots
+
 -- so many passes cannot have been made by fewer connections and slots
 abbrev pub AdmitsAll : ServePlan → Left → Type 0
-AdmitsAll plan left = PLACES ≤ 2 * length left.lines + 3 * slots_of plan + 2
+AdmitsAll plan left = CanAdmitAll plan.live (length left.lines) (slots_of plan)
 
 -- nothing was made, taken or written
 pub record IsUntouched (out : Outside) : Type 0 where
   pub station : out.station ≡ out.station_before
   pub station_faults : out.station_faults ≡ out.station_faults_before
   pub held : out.held ≡ out.held_before
+  pub write_faults : out.write_faults ≡ out.write_faults_before
 
 -- No connection was served: the doors that were made came back as they were, and what is written of the first load was written.
 pub record IsUnbegun (plan : ServePlan) (out : Outside) : Type 0 where
@@ -144,7 +165,7 @@ pub record IsUnbegun (plan : ServePlan) (out : Outside) : Type 0 where
   pub unserved : SlotsOf [] out.station_before [] → SlotsOf [] out.station []
   pub written : IsWritten out (opening_text plan.audit first)
 
--- Memory was refused, whenever that was: nothing was served, or what was left is as always.
+-- Memory was refused, whenever that was: nothing was served, or what was left is as always. A front of the text was written, and the output counted a fault at most once.
 pub record WasCutShort (plan : ServePlan) (out : Outside) : Type 0 where
   pub first : Loaded
   pub is_first : IsFirst plan out first
@@ -152,6 +173,7 @@ pub record WasCutShort (plan : ServePlan) (out : Outside) : Type 0 where
   pub is_left : IsLeft plan out left
   pub begins : BeginsWith first (in_order left.journal)
   pub written : GotFront out.held_before out.held (printed plan first left)
+  pub faults : (out.write_faults ≡ out.write_faults_before) ⊎ FailedOnce out
 
 -- a service that was served, of which more holds
 pub record Ended (plan : ServePlan) (out : Outside) (More : Loaded → Left → Type 0) : Type 0 where
@@ -166,8 +188,8 @@ Serves plan out (end.TreeFault count) = IsUntouched out × (count ≡ out.tree_f
 Serves plan out (end.LoadRefused refused) = IsUntouched out × IfSome out.tree (λ tree. load_of tree plan.root ≡ Err refused)
 Serves plan out end.NoMemory = IsUntouched out ⊎ (IsUnbegun plan out ⊎ WasCutShort plan out)
 Serves plan out end.DoorFault = Rose out.station_faults_before out.station_faults × (IsUnbegun plan out ⊎ Ended plan out (λ first left. WasWhole plan out left))
-Serves plan out end.WriteFault = Rose out.write_faults_before out.write_faults × (IsUnbegun plan out ⊎ Ended plan out (λ first left. WasWhole plan out left × AllServed plan out))
-Serves plan out end.Done = Ended plan out (λ first left. WasWhole plan out left × AllServed plan out × Got out.held_before out.held (printed plan first left))
+Serves plan out end.WriteFault = FailedOnce out × (IsUnbegun plan out ⊎ Ended plan out (λ first left. WasWhole plan out left × AllServed plan out))
+Serves plan out end.Done = Ended plan out (λ first left. WasWhole plan out left × AllServed plan out × Wrote out (printed plan first left))
 Serves plan out (end.JournalFull entries bytes) = Ended plan out (λ first left. FitsJournal plan.limits (cause.JournalFull entries bytes) (in_order left.journal))
 Serves plan out (end.Admissions admitted) = Ended plan out (λ first left. FitsJournal plan.limits (cause.Admissions admitted) (in_order left.journal) × AdmitsAll plan left)
 

@@ -2,21 +2,21 @@
 ghost use Rattle.std.specs.Prelude.{◌≡◌, ◌++◌, ◌∷◌, [], IfOk, List, OnOk, codes, map, string_bytes};
 ghost use Rattle.std.specs.List.{flat_map};
 ghost use Rattle.authority_model.specs.declared.journal.Item.{Item};
-ghost use Rattle.authority_service.specs.Lines.{connection_line, connection_lines, end_word, entries_line, opening_text, scanned, service_text};
+ghost use Rattle.authority_service.specs.Lines.{connection_line, connection_lines, end_word, entries_line, opening_text, plain_word, scanned, service_text};
 ghost use Rattle.journal_scan.specs.Counts.{tally_of};
 ghost use Rattle.journal_scan.specs.Orderly.{AreCounts};
 
 use authority_model::Loaded;
-use connection_serve::End;
+use connection_serve::{End, LiveEnd};
 use journal_scan::{ConnectionLine, Counts, Totals};
 use pk_types::{ByteList, List, NoMemory};
 use scenario_text::skipped_text;
 use service_slots::{Line, ShutSlot};
 use std::alloc::{AllocError, Global};
 
-/// The word for how a connection ended.
-fn end_word(end: End) -> &'static str
-    ensures word { result.now ≡ end_word end }
+/// The word for how a connection ended, where no look at a process failed.
+fn plain_word(end: End) -> &'static str
+    ensures word { result.now ≡ plain_word end }
 {
     match end {
         End::Ended { .. } => "ended",
@@ -30,6 +30,16 @@ fn end_word(end: End) -> &'static str
     }
 }
 
+/// The word for how a connection ended.
+fn end_word(end: LiveEnd) -> &'static str
+    ensures word { result.now ≡ end_word end }
+{
+    match end {
+        LiveEnd::SightFault => "sight-fault",
+        LiveEnd::Plain(end) => plain_word(end),
+    }
+}
+
 /// Adds the line of a connection.
 fn push_line(text: &mut String, line: &Line, counts: &Counts) -> Result<(), NoMemory>
     ensures ok { OnOk result ((past : List Item) → AreCounts past counts.now → string_bytes text.new ≡ string_bytes text.old ++ connection_line line.now (tally_of past line.now.number)) }
@@ -37,7 +47,12 @@ fn push_line(text: &mut String, line: &Line, counts: &Counts) -> Result<(), NoMe
     let Some(tally) = counts.tallies.get(line.number as usize) else {
         return Err(NoMemory);
     };
-    let Line { number, uid, end } = *line;
+    let Line {
+        number,
+        uid,
+        end,
+        ..
+    } = *line;
     let messages = tally.messages;
     let answers = tally.answers;
     write!(text, "connection {number} {uid} ")?;
@@ -100,6 +115,7 @@ fn scanned(line: &Line) -> ConnectionLine
     ConnectionLine {
         number: line.number,
         uid: line.uid,
+        sighter: line.sighter,
     }
 }
 

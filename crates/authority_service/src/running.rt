@@ -74,7 +74,7 @@ pub fn run_slots<L, T, F, N, R>(
     station: &mut N,
     zero: Pass<Kept<L>, T>,
     control: Pass<Kept<L>, T>,
-    slots: Vec<Slot<L, T, N::Door, N::Clock, N::Salt>>,
+    slots: Vec<Slot<L, T, N::Door, N::Clock, N::Salt, N::Sights>>,
     mut shut: Vec<ShutSlot>,
 ) -> Ran
 where

@@ -19,7 +19,7 @@ pub fn shut_slots<L: LimitsName, T: TableName, N: Station>(
     shared: &Shared<L, T>,
     control: &mut Pass<Kept<L>, T>,
     station: &mut N,
-    slots: Vec<Slot<L, T, N::Door, N::Clock, N::Salt>>,
+    slots: Vec<Slot<L, T, N::Door, N::Clock, N::Salt, N::Sights>>,
     shut: &mut Vec<ShutSlot>,
 )
     requires none { shut.old.items ≡ [] }

@@ -97,6 +97,7 @@ where
         station,
         plan.doors.as_slice(),
         plan.slots,
+        plan.live,
         &mut passes,
         &mut slots,
     ) {
@@ -242,7 +243,7 @@ where
         Err(Failed) => return ServiceEnd::WriteFault,
     }
     match run_named::<Brand, F, N, R>(rt, alloc, plan, first, tree, station) {
-        Ok(ran) => ran.tell(alloc, plan.audit, output),
+        Ok(ran) => ran.tell(alloc, plan, output),
         Err(Unbegun::DoorFault) => ServiceEnd::DoorFault,
         Err(Unbegun::NoMemory) => ServiceEnd::NoMemory,
     }

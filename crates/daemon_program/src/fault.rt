@@ -132,6 +132,13 @@ const PIPE: [Part; 3] = [
     ENTRIES,
 ];
 
+const LIVE: Part = Part {
+    option: "--live",
+    value: "",
+    form: Form::Nothing,
+    times: Times::Perhaps,
+};
+
 const AUDIT: Part = Part {
     option: "--audit",
     value: "",
@@ -139,7 +146,7 @@ const AUDIT: Part = Part {
     times: Times::Perhaps,
 };
 
-const SERVE: [Part; 6] = [
+const SERVE: [Part; 7] = [
     ROOT,
     Part {
         option: "--door",
@@ -160,6 +167,7 @@ const SERVE: [Part; 6] = [
         times: Times::Perhaps,
     },
     ENTRIES,
+    LIVE,
     AUDIT,
 ];
 

@@ -28,7 +28,7 @@ const TEXTS: ProgramTexts = ProgramTexts {
        polkitd audit [--root DIR] [--entries K]
        polkitd pipe UID --root DIR [--entries K]
        polkitd serve --root DIR --door UID:PATH {--door UID:PATH} --slots N [--stop-after K]
-                     [--entries K] [--audit]
+                     [--entries K] [--live] [--audit]
        polkitd load N
 
 replay  runs the scenario on standard input, and writes its answers to standard output
@@ -48,6 +48,8 @@ serve   listens at Unix sockets, serves many connections at once, and answers al
         --slots N        each door serves N connections at once; slots times doors is 1 to 64
         --stop-after K   each slot ends after K connections, 1 to 1000000
         --entries K      as for replay
+        --live           looks at a process in /proc before each call that names it; one that has
+                         gone is listed no longer, and its temporary authorizations end
         --audit          writes at the end the whole journal as an audit text, in place of all lines
 load N  runs N generated checks, 1 to 100000, and writes what they come to to standard output
 

@@ -1,14 +1,16 @@
 -- What follows of an item that belongs to a line or to the server.
-use Rattle.std.proofs.Common.{◌≡◌, ℕ, Bool, true, false, List, Option, Some, None, refl, ap, sym, ◌∙◌, subst}
+use Rattle.std.proofs.Common.{◌≡◌, ◌⊎◌, inl, inr, ℕ, Bool, true, false, List, Option, Some, None, refl, ap, sym, ◌∙◌, subst}
 use Rattle.authority_model.specs.declared.event.Event.{Event}
 use Rattle.authority_model.specs.declared.event.Event.TheVariants.{Connect, Call as Called, Returned, AgentError, Passed, Depart, Load, LoadFailed, Stop, Collect}
 use Rattle.authority_model.specs.declared.journal.Item.{Item}
+use Rattle.authority_model.specs.Items.{is_load}
 use Rattle.authority_model.specs.Lists.{any_of}
 use Rattle.authority_model.specs.Peers.{is_by}
 use Rattle.journal_scan.specs.declared.lines.ConnectionLine.{ConnectionLine}
 use Rattle.journal_scan.specs.Callers.{Belongs, IsInTurn, IsOfConnection, IsOfServer}
-use Rattle.journal_scan.specs.Lines.{uid_on}
+use Rattle.journal_scan.specs.Lines.{is_sighter, uid_on}
 use Rattle.journal_scan.specs.Loading.{ends_load, is_stop}
+use Rattle.journal_scan.specs.Sightings.{IsSighting}
 
 -- an item of a connection with a line is its Connect, or an event that a connection hands in
 turn_event : (P : Event → Type 0) (past : List Item) (i : Item) (uid : ℕ) → IsInTurn past i uid → (i.entry.event ≡ Connect uid → P i.entry.event) → (IsOfConnection i.entry.event → P i.entry.event) → P i.entry.event
@@ -21,11 +23,15 @@ turn_event P past i uid turn connect other = of (any_of (is_by i.entry.caller) p
 pub connects_belong : (lines : List ConnectionLine) (past : List Item) (i : Item) (uid : ℕ) → Belongs lines past i → i.entry.event ≡ Connect uid → uid_on lines i.entry.caller ≡ Some uid
 connects_belong lines past i uid belongs event = of (uid_on lines i.entry.caller) refl
   where
+    unlined : uid_on lines i.entry.caller ≡ None → (b : Bool) → is_sighter lines i.entry.caller ≡ b → ⊥
+    unlined is true looks = let never : false ≡ true = ap is_load (sym event) ∙ (belongs.sighting is looks).load in absurd (cc (never))
+    unlined is false looks = subst (IsOfServer i.entry.caller) event (belongs.unlined is looks)
+
     same : (u : ℕ) → i.entry.event ≡ Connect u → u ≡ uid
     same u given = cc
 
     of : (o : Option ℕ) → uid_on lines i.entry.caller ≡ o → uid_on lines i.entry.caller ≡ Some uid
-    of None is = let nothing : ⊥ = subst (IsOfServer i.entry.caller) event (belongs.unlined is) in absurd nothing
+    of None is = absurd (unlined is (is_sighter lines i.entry.caller) refl)
     of (Some u) is = is ∙ ap (λ (n : ℕ). Some n) (turn_event (λ e. u ≡ uid) past i u (belongs.lined u is) (same u) (λ of. let nothing : ⊥ = subst IsOfConnection event of in absurd nothing))
 
 server_load : (c : ℕ) (e : Event) → IsOfServer c e → ends_load e ≡ true → c ≡ 0
@@ -70,11 +76,15 @@ connect_no_load uid e event is = let never : false ≡ true = ap ends_load (sym 
 connect_no_stop : (uid : ℕ) (e : Event) → e ≡ Connect uid → is_stop e ≡ true → ⊥
 connect_no_stop uid e event is = let never : false ≡ true = ap is_stop (sym event) ∙ is in absurd (cc (never))
 
-pub loads_belong : (lines : List ConnectionLine) (past : List Item) (i : Item) → Belongs lines past i → ends_load i.entry.event ≡ true → i.entry.caller ≡ 0
+pub loads_belong : (lines : List ConnectionLine) (past : List Item) (i : Item) → Belongs lines past i → ends_load i.entry.event ≡ true → (i.entry.caller ≡ 0) ⊎ ((is_sighter lines i.entry.caller ≡ true) × IsSighting past i)
 loads_belong lines past i belongs ends = of (uid_on lines i.entry.caller) refl
   where
-    of : (o : Option ℕ) → uid_on lines i.entry.caller ≡ o → i.entry.caller ≡ 0
-    of None is = server_load i.entry.caller i.entry.event (belongs.unlined is) ends
+    unlined : uid_on lines i.entry.caller ≡ None → (b : Bool) → is_sighter lines i.entry.caller ≡ b → (i.entry.caller ≡ 0) ⊎ ((is_sighter lines i.entry.caller ≡ true) × IsSighting past i)
+    unlined is true looks = inr (looks, belongs.sighting is looks)
+    unlined is false looks = inl (server_load i.entry.caller i.entry.event (belongs.unlined is looks) ends)
+
+    of : (o : Option ℕ) → uid_on lines i.entry.caller ≡ o → (i.entry.caller ≡ 0) ⊎ ((is_sighter lines i.entry.caller ≡ true) × IsSighting past i)
+    of None is = unlined is (is_sighter lines i.entry.caller) refl
     of (Some u) is = absurd (turn_event (λ e. ⊥) past i u (belongs.lined u is) (λ event. connect_no_load u i.entry.event event ends) (λ of. no_load i.entry.event of ends))
 
 pub stops_belong : (lines : List ConnectionLine) (past : List Item) (i : Item) → Belongs lines past i → is_stop i.entry.event ≡ true → uid_on lines i.entry.caller ≡ None

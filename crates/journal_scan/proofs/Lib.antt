@@ -1,6 +1,9 @@
 pub mod Tables
+pub mod Rows
 pub mod Lining
 pub mod NextLoads
 pub mod Counting
 pub mod Collecting
 pub mod Belonging
+pub mod Staging
+pub mod Pairs

@@ -1,4 +1,4 @@
--- Whose entries a journal has: those of the connections with a line, each in its turn, and those of the server.
+-- Whose entries a journal has: those of the connections with a line, each in its turn, those of their sighters, and those of the server.
 use Rattle.std.specs.Prelude.{◌≡◌, ℕ, ⊤, true, false, List, Some, None}
 use Rattle.authority_model.specs.declared.event.Event.{Event}
 use Rattle.authority_model.specs.declared.event.Event.TheVariants.{Connect, Call as Called, Returned, AgentError, Passed, Depart, Load, LoadFailed, Stop, Collect}
@@ -6,7 +6,8 @@ use Rattle.authority_model.specs.declared.journal.Item.{Item}
 use Rattle.authority_model.specs.Lists.{any_of}
 use Rattle.authority_model.specs.Peers.{is_by, departs}
 use Rattle.journal_scan.specs.declared.lines.ConnectionLine.{ConnectionLine}
-use Rattle.journal_scan.specs.Lines.{uid_on}
+use Rattle.journal_scan.specs.Lines.{is_sighter, uid_on}
+use Rattle.journal_scan.specs.Sightings.{IsSighting}
 
 -- an event that a connection hands in after its Connect
 abbrev pub IsOfConnection : Event → Type 0
@@ -31,7 +32,8 @@ pub record IsInTurn (past : List Item) (i : Item) (uid : ℕ) : Type 0 where
   pub later : any_of (is_by i.entry.caller) past ≡ true → IsOfConnection i.entry.event
   pub stays : any_of (departs i.entry.caller) past ≡ false
 
--- An item belongs to a connection with a line, or to the server.
+-- An item belongs to a connection with a line, to the sighter of one, or to the server.
 pub record Belongs (lines : List ConnectionLine) (past : List Item) (i : Item) : Type 0 where
   pub lined : (uid : ℕ) → uid_on lines i.entry.caller ≡ Some uid → IsInTurn past i uid
-  pub unlined : uid_on lines i.entry.caller ≡ None → IsOfServer i.entry.caller i.entry.event
+  pub sighting : uid_on lines i.entry.caller ≡ None → is_sighter lines i.entry.caller ≡ true → IsSighting past i
+  pub unlined : uid_on lines i.entry.caller ≡ None → is_sighter lines i.entry.caller ≡ false → IsOfServer i.entry.caller i.entry.event

@@ -7,7 +7,7 @@ use Rattle.authority_model.specs.Items.{is_load, sent}
 use Rattle.authority_model.specs.Peers.{is_by}
 use Rattle.journal_scan.specs.declared.counts.Tally.{Tally}
 use Rattle.journal_scan.specs.declared.counts.Totals.{Totals}
-use Rattle.journal_scan.specs.Loading.{is_failed_load, loads_due}
+use Rattle.journal_scan.specs.Loading.{is_failed_load, is_unlisting, loads_due}
 
 -- whether an event came by a message of a connection: it is not its Connect and not its Depart
 abbrev pub is_message : Event → Bool
@@ -32,11 +32,12 @@ tally_of past c = record { messages = messages_of past c; answers = sent past c 
 abbrev pub NothingFrom : List Item → ℕ → Type 0
 NothingFrom past size = (c : ℕ) → size ≤ c → tally_of past c ≡ record { messages = 0; answers = 0 }
 
--- what is counted of all: the entries, the loads, the refused loads, and the loads that were wanted before the Stop
+-- what is counted of all: the entries, the loads, those of sighters among them, the refused loads, and the loads that were wanted before the Stop
 abbrev pub totals_of : List Item → Totals
 totals_of past = record {
   entries = length past;
   loads = how_many (λ i. is_load i.entry.event) past;
+  unlisted = how_many is_unlisting past;
   refused = how_many (λ i. is_failed_load i.entry.event) past;
   wanted = loads_due past;
 }

@@ -1,5 +1,6 @@
 pub mod Lines
 pub mod Callers
+pub mod Sightings
 pub mod Loading
 pub mod Collecting
 pub mod Counts

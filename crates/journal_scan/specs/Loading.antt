@@ -1,5 +1,5 @@
 -- When loads come, and the Stop.
-use Rattle.std.specs.Prelude.{◌≡◌, ℕ, ◌+◌, ◌≤◌, Bool, true, false, if◌then◌else◌, List, [], ◌∷◌, None, count_by}
+use Rattle.std.specs.Prelude.{◌≡◌, ℕ, ◌+◌, ◌==◌, ◌≤◌, Bool, true, false, not, ◌&&◌, if◌then◌else◌, List, [], ◌∷◌, None, count_by}
 use Rattle.authority_model.specs.declared.event.Event.{Event}
 use Rattle.authority_model.specs.declared.event.Event.TheVariants.{Load, LoadFailed, Stop}
 use Rattle.authority_model.specs.declared.journal.Item.{Item}
@@ -36,10 +36,18 @@ is_load_wanted _ = false
 abbrev pub wanted_by : Item → ℕ
 wanted_by i = count_by (λ o. is_load_wanted o.message) i.entry.outputs
 
--- how many Loads and LoadFaileds there are
+-- whether an item ends a load of the loader, which is caller 0: this answers a LoadWanted, but for the first load
+abbrev pub ends_wanted : Item → Bool
+ends_wanted i = ends_load i.entry.event && (i.entry.caller == 0)
+
+-- whether an item is a Load by another caller: this answers no LoadWanted
+abbrev pub is_unlisting : Item → Bool
+is_unlisting i = is_load i.entry.event && not (i.entry.caller == 0)
+
+-- how many Loads and LoadFaileds of the loader there are
 abbrev pub loads_ended : List Item → ℕ
 loads_ended [] = 0
-loads_ended (i ∷ past) = loads_ended past + (if ends_load i.entry.event then 1 else 0)
+loads_ended (i ∷ past) = loads_ended past + (if ends_wanted i then 1 else 0)
 
 -- how many LoadWanted were sent
 abbrev pub loads_wanted : List Item → ℕ
@@ -61,9 +69,9 @@ pub record IsFirstLoad (i : Item) : Type 0 where
   pub caller : i.entry.caller ≡ 0
   pub moment : i.entry.moment ≡ 0
 
--- An item is due where it stands: the first is the first load; one by a caller without a line has the moment of the one before it; each later Load or LoadFailed has a LoadWanted of its own before it, the first load needs none; and there is one Stop at most.
+-- An item is due where it stands: the first is the first load; one by a caller without a line has the moment of the one before it; each later Load or LoadFailed of the loader has a LoadWanted of its own before it, the first load and that of a sighter need none; and there is one Stop at most.
 pub record IsDue (lines : List ConnectionLine) (past : List Item) (i : Item) : Type 0 where
   pub first : past ≡ [] → IsFirstLoad i
   pub moment : uid_on lines i.entry.caller ≡ None → i.entry.moment ≡ last_moment past
-  pub wanted : ends_load i.entry.event ≡ true → loads_ended past ≤ loads_wanted past
+  pub wanted : ends_wanted i ≡ true → loads_ended past ≤ loads_wanted past
   pub stop : is_stop i.entry.event ≡ true → has_stop past ≡ false

@@ -19,11 +19,11 @@ EachItem P (i ∷ past) = P past i × EachItem P past
 
 -- A journal, with the newest first, is orderly for its `connection` lines.
 pub record IsOrderly (lines : List ConnectionLine) (past : List Item) : Type 0 where
-  -- the numbers of the lines differ
+  -- the numbers of the lines and of their sighters differ
   pub differ : NumbersDiffer lines
   -- each is below the greatest count of passes
   pub few : Each (λ l. l.number < PLACES) lines
-  -- each item belongs to a connection with a line, in its turn, or to the server
+  -- each item belongs to a connection with a line, in its turn, to the sighter of one, or to the server
   pub belong : EachItem (Belongs lines) past
   -- each item is due where it stands
   pub due : EachItem (IsDue lines) past

@@ -1,11 +1,13 @@
 // Whose entries a journal has.
-ghost use Rattle.std.specs.Prelude.{◌≡◌, ◌<◌, ℕ, ◌∷◌, ◌++◌, [], List, None, IfOk, IsTrue, is_some, length};
+ghost use Rattle.std.specs.Prelude.{◌≡◌, ◌≢◌, ◌<◌, ◌==◌, if◌then◌else◌, ℕ, ◌∷◌, ◌++◌, [], List, None, IfOk, IsTrue, is_some, length};
 ghost use Rattle.authority_model.specs.declared.journal.Item.{Item};
 ghost use Rattle.authority_model.specs.Lists.{Each};
+ghost use Rattle.journal_scan.specs.declared.callers.Place.{Place as ThePlace};
 ghost use Rattle.journal_scan.specs.declared.lines.ConnectionLine.{ConnectionLine as TheLine};
 ghost use Rattle.journal_scan.specs.Callers.{Belongs, IsOfConnection, IsOfServer};
-ghost use Rattle.journal_scan.specs.Lines.{NumbersDiffer, uid_on};
-ghost use Rattle.journal_scan.specs.Standing.{place_of, stage_after};
+ghost use Rattle.journal_scan.specs.Lines.{HasOwnNumbers, NumbersDiffer, uid_on};
+ghost use Rattle.journal_scan.specs.Sightings.{IsSighting};
+ghost use Rattle.journal_scan.specs.Standing.{IsUntaken, place_of, stage_after, with_sighter, with_uid};
 ghost use Rattle.journal_scan.specs.Tables.{IsTable};
 
 use crate::lines::ConnectionLine;
@@ -39,25 +41,40 @@ impl Stage {
     }
 }
 
-/// What is kept of a connection.
+/// What is kept of a number.
 #[derive(Clone, Copy)]
 pub(crate) struct Place {
     /// The uid on its line, if it has one.
     pub(crate) uid: Option<u32>,
+    /// Whether it is the number of a sighter.
+    pub(crate) looks: bool,
     pub(crate) stage: Stage,
 }
 
 impl Place {
     const EMPTY: Place = Place {
         uid: None,
+        looks: false,
         stage: Stage::Unseen,
     };
 
-    /// Whether an entry of this caller may stand here.
-    fn admits(self, caller: u32, event: &Event) -> bool
-        ensures belongs { IsTrue result → (lines : List TheLine) (past : List Item) (i : Item) → i.entry.caller ≡ caller → i.entry.event ≡ event.now → self ≡ place_of lines past caller → Belongs lines past i }
+    /// Whether it is of no line and of no sighter.
+    fn is_untaken(&self) -> bool
+        ensures untaken { IsTrue result → IsUntaken self.now }
+    {
+        self.uid.is_none() && !self.looks
+    }
+
+    /// Whether an entry of this caller may stand here, which is a sighting or not.
+    fn admits(self, caller: u32, event: &Event, sighting: bool) -> bool
+        ensures belongs { IsTrue result → (lines : List TheLine) (past : List Item) (i : Item) → i.entry.caller ≡ caller
+            → i.entry.event ≡ event.now
+            → (IsTrue sighting → IsSighting past i)
+            → self ≡ place_of lines past caller
+            → Belongs lines past i }
     {
         match self.uid {
+            None if self.looks => sighting,
             None => is_of_server(caller, event),
             Some(uid) => match self.stage {
                 Stage::Unseen => is_connect(uid, event),
@@ -103,7 +120,7 @@ fn is_of_server(caller: u32, event: &Event) -> bool
     }
 }
 
-/// A place for each connection, by its number.
+/// A place for each connection and each sighter, by its number.
 #[derive(Drop)]
 pub(crate) struct Callers {
     pub(crate) places: Vec<Place>,
@@ -118,23 +135,56 @@ impl Callers {
         Ok(Callers { places })
     }
 
-    /// Takes a line. Its number may have none yet.
+    /// Takes the number and the uid of a line. The number has to be untaken.
+    fn mark_number(&mut self, number: u32, uid: u32) -> bool
+        ensures marked { IsTrue result → (size : ℕ) (f : ℕ → ThePlace)
+            → IsTable size (λ c place. place ≡ f c) self.old.places.items
+            → (number < size)
+            × IsUntaken (f number)
+            × IsTable size (λ c place. place ≡ (if number == c then with_uid uid (f c) else f c)) self.new.places.items }
+    {
+        let at = number as usize;
+        if at >= self.places.len() || !self.places[at].is_untaken() {
+            return false;
+        }
+        self.places[at].uid = Some(uid);
+        true
+    }
+
+    /// Takes the number of a sighter, which has to be untaken, and not that of the loader.
+    fn mark_sighter(&mut self, number: u32) -> bool
+        ensures marked { IsTrue result → (size : ℕ) (f : ℕ → ThePlace)
+            → IsTable size (λ c place. place ≡ f c) self.old.places.items
+            → (number ≢ 0)
+            × IsUntaken (f number)
+            × IsTable size (λ c place. place ≡ (if number == c then with_sighter (f c) else f c)) self.new.places.items }
+    {
+        let at = number as usize;
+        if at == 0 || at >= self.places.len() || !self.places[at].is_untaken() {
+            return false;
+        }
+        self.places[at].looks = true;
+        true
+    }
+
+    /// Takes a line. Its numbers have to be untaken.
     fn mark(&mut self, line: ConnectionLine) -> bool
         ensures marked { IsTrue result → (size : ℕ) (lines : List TheLine)
             → IsTable size (λ c place. place ≡ place_of lines [] c) self.old.places.items
             → (line.number < size)
-            × (uid_on lines line.number ≡ None)
+            × HasOwnNumbers lines line
             × IsTable size (λ c place. place ≡ place_of (lines ++ line ∷ []) [] c) self.new.places.items }
     {
-        let at = line.number as usize;
-        if at >= self.places.len() || self.places[at].uid.is_some() {
+        if !self.mark_number(line.number, line.uid) {
             return false;
         }
-        self.places[at].uid = Some(line.uid);
-        true
+        match line.sighter {
+            Some(sighter) => self.mark_sighter(sighter),
+            None => true,
+        }
     }
 
-    /// Takes all lines. Their numbers have to differ.
+    /// Takes all lines. Their numbers and those of their sighters have to differ.
     pub(crate) fn mark_all(&mut self, lines: &[ConnectionLine]) -> bool
         requires empty { IsTable (length self.old.places.items) (λ c place. place ≡ place_of [] [] c) self.old.places.items }
         ensures differ { IsTrue result → NumbersDiffer lines.now }
@@ -159,10 +209,11 @@ impl Callers {
         }
     }
 
-    /// Takes the next entry. It has to belong to a connection with a line, in its turn, or to the
-    /// server.
-    pub(crate) fn enter(&mut self, entry: &Entry) -> bool
+    /// Takes the next entry, which is a sighting or not. It has to belong to a connection with a line,
+    /// in its turn, to the sighter of one, or to the server.
+    pub(crate) fn enter(&mut self, entry: &Entry, sighting: bool) -> bool
         ensures belongs { IsTrue result → (size : ℕ) (lines : List TheLine) (past : List Item) (i : Item) → i.entry ≡ entry.now
+            → (IsTrue sighting → IsSighting past i)
             → IsTable size (λ c place. place ≡ place_of lines past c) self.old.places.items
             → (entry.now.caller < size) × Belongs lines past i × IsTable size (λ c place. place ≡ place_of lines (i ∷ past) c) self.new.places.items }
     {
@@ -171,7 +222,7 @@ impl Callers {
             return false;
         }
         let place = self.places[at];
-        if !place.admits(entry.caller, &entry.event) {
+        if !place.admits(entry.caller, &entry.event, sighting) {
             return false;
         }
         self.places[at].stage = place.stage.after(&entry.event);

@@ -37,6 +37,8 @@ pub struct Totals {
     pub entries: u64,
     /// The Load entries.
     pub loads: u64,
+    /// Those among them that are not the loader's: each takes one process out of the load before it.
+    pub unlisted: u64,
     /// The LoadFailed entries.
     pub refused: u64,
     /// The LoadWanted that were sent before the Stop.

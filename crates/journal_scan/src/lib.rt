@@ -9,7 +9,9 @@ mod counts;
 mod laws;
 mod lines;
 mod loading;
+mod same;
 mod scan;
+mod sightings;
 
 pub use counts::{Counts, PLACES, Tally, Totals};
 pub use laws::items_belong;

@@ -3,15 +3,15 @@ ghost use Rattle.std.specs.Prelude.{◌≡◌, ◌≤◌, ℕ, ◌∷◌, [], Li
 ghost use Rattle.authority_model.specs.declared.journal.Item.{Item};
 ghost use Rattle.authority_model.specs.Items.{items_of};
 ghost use Rattle.journal_scan.specs.declared.lines.ConnectionLine.{ConnectionLine as TheLine};
-ghost use Rattle.journal_scan.specs.Orderly.{AreCounts, HaveRows, IsOrderly};
-ghost use Rattle.journal_scan.specs.Standing.{Stands};
+ghost use Rattle.journal_scan.specs.Orderly.{AreCounts, EachItem, HaveRows, IsOrderly};
+ghost use Rattle.journal_scan.specs.Standing.{IsPaired, Stands};
 
 use crate::callers::Callers;
 use crate::collects::Collects;
 use crate::counts::{Counts, PLACES, Tallies};
 use crate::lines::ConnectionLine;
 use crate::loading::Loading;
-use authority_model::{Entry, History};
+use authority_model::{Entry, History, Loaded};
 use pk_types::NoMemory;
 use std::alloc::Global;
 
@@ -27,11 +27,15 @@ pub(crate) struct Scan {
 impl Scan {
     ghost use Rattle.journal_scan.specs.Standing.{Stands};
 
-    /// Takes the next entry.
-    fn enter(&mut self, entry: &Entry) -> bool
-        ensures stands { IsTrue result → (size : ℕ) (lines : List TheLine) (past : List Item) (i : Item) → i.entry ≡ entry.now → Stands size lines past self.old → Stands size lines (i ∷ past) self.new }
+    /// Takes the next entry, where these are all loads by their numbers.
+    fn enter(&mut self, entry: &Entry, loads: &[Loaded]) -> bool
+        ensures stands { IsTrue result → (size : ℕ) (lines : List TheLine) (past : List Item) (i : Item) → i.entry ≡ entry.now
+            → EachItem (IsPaired loads.now) (i ∷ past)
+            → Stands size lines past self.old
+            → Stands size lines (i ∷ past) self.new }
     {
-        if !self.callers.enter(entry) {
+        let sighting = self.loading.is_sighting(entry, loads);
+        if !self.callers.enter(entry, sighting) {
             return false;
         }
         let lined = self.callers.has_line(entry.caller);
@@ -49,8 +53,9 @@ impl Scan {
         ensures stands { IsTrue result → (size : ℕ) (lines : List TheLine) → Stands size lines [] self.old → Stands size lines (items_of history.now) self.new }
     {
         let entries = history.entries.as_slice();
+        let loads = history.loads.as_slice();
         for entry in entries {
-            if !self.enter(entry) {
+            if !self.enter(entry, loads) {
                 return false;
             }
         }
@@ -58,24 +63,24 @@ impl Scan {
     }
 }
 
-/// How many numbers have rows: all up to the greatest of a line or of a caller.
+/// How many numbers have rows: all up to the greatest of a line, of a sighter or of a caller.
 fn size_for(history: &History, lines: &[ConnectionLine]) -> usize
     ensures few { result ≤ PLACES }
 {
-    let of_lines = lines.iter().map(|line| line.number).max().unwrap_or(0);
+    let of_lines = lines.iter().map(|line| line.greatest()).max().unwrap_or(0);
     let entries = history.entries.as_slice();
     let of_callers = entries.iter().map(|entry| entry.caller).max().unwrap_or(0);
     (of_lines.max(of_callers) as usize + 1).min(PLACES)
 }
 
 /// Looks whether a closed journal is orderly for its `connection` lines, and counts what the printed
-/// lines tell. Its time is linear in the entries, the outputs and the lines, and its memory in the
-/// greatest number of a caller.
+/// lines tell. Its time is linear in the entries, the outputs, the lines and the loads of sighters, and
+/// its memory in the greatest number of a caller.
 ///
 /// `None` is a journal or a list of lines in which one of the facts was not found. (Besides, it is one
-/// of a caller at or above `PLACES`, one with an output to a number above each line's and each
-/// caller's, one whose callers collect of more than one connection each, and one whose counts do not
-/// fit 64 bits.)
+/// of a caller or a sighter at or above `PLACES`, one with an output to a number above each line's,
+/// each sighter's and each caller's, one whose callers collect of more than one connection each, and
+/// one whose counts do not fit 64 bits.)
 pub fn scan_journal(
     alloc: Global,
     history: &History,

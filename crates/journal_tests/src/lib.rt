@@ -17,3 +17,5 @@ mod desks;
 mod full;
 #[cfg(test)]
 mod scans;
+#[cfg(test)]
+mod sightings;

@@ -26,6 +26,7 @@ struct Row(u32, u64, Kind);
 const LINE: ConnectionLine = ConnectionLine {
     number: 1,
     uid: 1000,
+    sighter: None,
 };
 
 const JOURNAL: [Row; 9] = [
@@ -153,6 +154,7 @@ fn counts_an_orderly_journal(rt: HostRuntime) -> Result<(), Fail> {
     let totals = Totals {
         entries: 9,
         loads: 2,
+        unlisted: 0,
         refused: 0,
         wanted: 1,
     };
@@ -222,6 +224,7 @@ fn finds_lines_that_do_not_fit(rt: HostRuntime) -> Result<(), Fail> {
     let other = ConnectionLine {
         number: 1,
         uid: 1001,
+        sighter: None,
     };
     assert!(rt; !is_orderly(alloc, None, &[other])?, "another uid");
     assert!(rt; !is_orderly(alloc, None, &[LINE, LINE])?, "a number twice");

@@ -42,9 +42,9 @@ pub enum Command<'a> {
         root: &'a Text,
         entries: u64,
     },
-    /// `serve --root DIR --door UID:PATH {--door UID:PATH} --slots N [--stop-after K] [--entries K]`:
-    /// serves the connections that come in at the doors, from what the tree below the root gives. The
-    /// words behind `serve` name a plan.
+    /// `serve --root DIR --door UID:PATH {--door UID:PATH} --slots N [--stop-after K] [--entries K]
+    /// [--live] [--audit]`: serves the connections that come in at the doors, from what the tree below
+    /// the root gives. The words behind `serve` name a plan.
     Serve {
         words: &'a [Text],
     },

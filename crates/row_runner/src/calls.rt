@@ -2,6 +2,7 @@
 use crate::actions::action_file;
 use crate::admins::{administrators, named_admins};
 use crate::asking::{asked, check_is_too_long, event, method, written_again};
+use crate::authority::authority;
 use crate::clients::{agent_reply_bytes, pkcheck_words, polkit_agent_words, question, told};
 use crate::commands::{agent_rule, door, serve_plan};
 use crate::counts::{count_groups, count_processes, count_sessions, count_users};
@@ -138,7 +139,7 @@ fn files_call(row: &mut Row, name: &[u8]) -> bool {
 }
 
 /// The calls over command lines, rules of agents, scenarios and entries.
-const COMMANDS: [&[u8]; 11] = [
+const COMMANDS: [&[u8]; 12] = [
     b"door",
     b"serve_plan",
     b"pkcheck_words",
@@ -150,6 +151,7 @@ const COMMANDS: [&[u8]; 11] = [
     b"answer_line",
     b"desk",
     b"implicit_by_index",
+    b"authority",
 ];
 
 /// Makes the call of this name, if it is one of them, and tells whether it is.
@@ -166,6 +168,7 @@ fn commands_call(row: &mut Row, name: &[u8]) -> bool {
         Some(8) => answer_line(row),
         Some(9) => desk(row),
         Some(10) => implicit_by_index(row),
+        Some(11) => authority(row),
         _ => return false,
     }
     true

@@ -42,6 +42,7 @@ fn show_plan(row: &mut Row, plan: &ServePlan) {
     row.field("slots", &plan.slots);
     row.field("stop_after", &plan.stop_after);
     row.field("entries", &plan.limits.entries);
+    row.field("live", &plan.live);
     row.field("audit", &plan.audit);
 }
 

@@ -1,12 +1,13 @@
-// A desk: what it answers the lines of a scenario, and what its tables then tell.
+// A desk: what it answers the lines of a scenario, and what its tables then tell. Where it is refused
+// memory, what it counts is compared with what it counted before, and the same is handed in once more.
 ghost use Rattle.authority_model.specs.Given.{IsStepped};
 
 use crate::drafts::{empty_draft, load_draft, take_line};
 use crate::questions::ask;
 use crate::row::{Row, Wrong};
 use crate::words::words;
-use authority_desk::Desk;
-use authority_model::{Event, Output};
+use authority_desk::{Desk, DeskCounts, DeskLoadRefused, DeskNumbers, DeskRefused};
+use authority_model::{Event, Loaded, Output};
 use pk_types::{NoMemory, cut, lines};
 use scenario_run::{NoFile, ScenarioRun};
 use scenario_text::{Step, read_line};
@@ -84,10 +85,21 @@ impl DeskRun {
         }
     }
 
-    fn load(&mut self, row: &mut Row) {
-        let Some(loaded) = load_draft(row, &mut self.drafts) else {
-            return;
-        };
+    /// What the desk counts.
+    fn counted(&self) -> (DeskNumbers, DeskCounts) {
+        (self.desk.as_ref().numbers(), self.desk.as_ref().counts())
+    }
+
+    /// Tells that memory was refused, and whether the desk counts what it did before.
+    fn tell_refused(&self, row: &mut Row, before: (DeskNumbers, DeskCounts)) {
+        if self.counted() == before {
+            row.word("refused same");
+        } else {
+            row.word("refused changed");
+        }
+    }
+
+    fn load_again(&mut self, row: &mut Row, loaded: Loaded) {
         match self
             .desk
             .as_mut()
@@ -98,13 +110,27 @@ impl DeskRun {
         }
     }
 
-    /// Submits an event. The draft is loaded first, if nothing came before.
-    fn act(&mut self, row: &mut Row, caller: u32, event: Event)
+    fn load(&mut self, row: &mut Row) {
+        let Some(loaded) = load_draft(row, &mut self.drafts) else {
+            return;
+        };
+        let before = self.counted();
+        match self
+            .desk
+            .as_mut()
+            .load(0, self.moment.min(LAST_MOMENT), loaded)
+        {
+            Ok(entry) => self.add_outputs(row, entry.outputs.as_slice()),
+            Err(DeskLoadRefused::NoMemory { loaded }) => {
+                self.tell_refused(row, before);
+                self.load_again(row, loaded);
+            }
+        }
+    }
+
+    fn step_again(&mut self, row: &mut Row, caller: u32, event: Event)
         requires { IsStepped event }
     {
-        if self.desk.as_ref().peers().entries() == 0 {
-            self.load(row);
-        }
         match self
             .desk
             .as_mut()
@@ -113,6 +139,33 @@ impl DeskRun {
             Ok(entry) => self.add_outputs(row, entry.outputs.as_slice()),
             Err(_) => row.mark(Wrong::NoMemory),
         }
+    }
+
+    fn step(&mut self, row: &mut Row, caller: u32, event: Event)
+        requires { IsStepped event }
+    {
+        let before = self.counted();
+        match self
+            .desk
+            .as_mut()
+            .step(caller, self.moment.min(LAST_MOMENT), 0, event)
+        {
+            Ok(entry) => self.add_outputs(row, entry.outputs.as_slice()),
+            Err(DeskRefused::NoMemory { event }) => {
+                self.tell_refused(row, before);
+                self.step_again(row, caller, event);
+            }
+        }
+    }
+
+    /// Submits an event. The draft is loaded first, if nothing came before.
+    fn act(&mut self, row: &mut Row, caller: u32, event: Event)
+        requires { IsStepped event }
+    {
+        if self.desk.as_ref().peers().entries() == 0 {
+            self.load(row);
+        }
+        self.step(row, caller, event);
     }
 
     /// Does what a line of a scenario says.
@@ -148,6 +201,8 @@ impl DeskRun {
 
 /// `desk LINES`: the lines that a desk answers the lines of a scenario, one for each output, and one for
 /// each line that begins with `? `, which asks as `ask` says.
+///
+/// Where the desk is refused memory, `refused` comes before, and whether what it counts is the `same`.
 pub fn desk(row: &mut Row) {
     let Ok(lines) = lines(row.alloc, row.bytes()) else {
         return row.mark(Wrong::NoMemory);

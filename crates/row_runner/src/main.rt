@@ -7,6 +7,7 @@
 mod actions;
 mod admins;
 mod asking;
+mod authority;
 mod calls;
 mod clients;
 mod commands;

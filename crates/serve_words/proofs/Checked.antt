@@ -1,5 +1,5 @@
 -- Doors are checked one after another, and none is kept.
-use Rattle.std.proofs.Common.{◌≡◌, ℕ, ◌+◌, ◌*◌, ◌-◌, ◌/◌, ◌==◌, Bool, true, false, cond, List, [], ◌∷◌, ◌++◌, Option, Some, None, refl, ap, sym, ◌∙◌, length, length-append, arith}
+use Rattle.std.proofs.Common.{◌≡◌, ℕ, ◌+◌, ◌*◌, ◌-◌, ◌/◌, ◌==◌, Bool, true, false, cond, List, [], ◌∷◌, ◌++◌, Option, Some, None, refl, ap, ◌∙◌, length, length-append, arith}
 use Rattle.std.specs.Prelude.{codes, is_some, nat_le, not, ◌&&◌, option_and_then}
 use Rattle.std.specs.Str.{bytes_eq}
 use Rattle.command_line.specs.declared.door.DoorPath.{DoorPath}

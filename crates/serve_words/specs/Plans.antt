@@ -1,5 +1,5 @@
--- The words behind `serve`: `--root DIR --door UID:PATH {--door UID:PATH} --slots N [--stop-after K] [--entries K] [--audit]`, in this order.
-use Rattle.std.specs.Prelude.{ℕ, ◌≡◌, ◌≤◌, ◌*◌, ◌==◌, IfSome, ◌&&◌, Bool, true, false, not, List, [], ◌∷◌, ◌++◌, length, Option, Some, None, codes, if◌then◌else◌, nat_eq, nat_le, option_and_then, option_map}
+-- The words behind `serve`: `--root DIR --door UID:PATH {--door UID:PATH} --slots N [--stop-after K] [--entries K] [--live] [--audit]`, in this order.
+use Rattle.std.specs.Prelude.{ℕ, ◌≤◌, ◌*◌, ◌==◌, IfSome, ◌&&◌, Bool, true, false, not, List, [], ◌∷◌, ◌++◌, length, Option, Some, None, codes, if◌then◌else◌, nat_eq, nat_le, option_and_then, option_map}
 use Rattle.std.specs.List.{ends_with}
 use Rattle.std.specs.Str.{bytes_eq}
 use Rattle.pk_types.specs.Decimals.{decimal_up_to}
@@ -10,6 +10,7 @@ use Rattle.command_line.specs.Doors.{door_of}
 use Rattle.serve_words.specs.declared.plan.ServePlan.{ServePlan}
 use Rattle.serve_words.specs.declared.amounts.Amounts.{Amounts}
 use Rattle.serve_words.specs.declared.amounts.Ending.{Ending}
+use Rattle.serve_words.specs.declared.amounts.Manner.{Manner}
 use Rattle.serve_words.specs.declared.amounts.TheConstants.{MAX_SLOTS, MAX_CONNECTIONS}
 
 -- a number above 0
@@ -41,22 +42,40 @@ audit_in [] = Some false
 audit_in (option ∷ []) = if bytes_eq option (codes "--audit") then Some true else None
 audit_in other = None
 
+-- the words after `--live`, where the words begin with it
+abbrev pub behind_live : List (List ℕ) → Option (List (List ℕ))
+behind_live (option ∷ words) = if bytes_eq option (codes "--live") then Some words else None
+behind_live [] = None
+
+-- the manner of a service that looks at live processes or does not, if the words of the audit text are right
+abbrev pub manner_with : Bool → Option Bool → Option Manner
+manner_with live audit = option_map (λ a. record { live = live; audit = a }) audit
+
+-- the manner that the words say, which begin with `--live` or do not
+abbrev pub manner_or : List (List ℕ) → Option (List (List ℕ)) → Option Manner
+manner_or words None = manner_with false (audit_in words)
+manner_or words (Some rest) = manner_with true (audit_in rest)
+
+-- whether a service looks at live processes, and whether it writes the audit text: `[--live] [--audit]`
+abbrev pub manner_in : List (List ℕ) → Option Manner
+manner_in words = manner_or words (behind_live words)
+
 -- the ending with this limit of entries, if the words after it are right
-abbrev pub ending_with : ℕ → Option Bool → Option Ending
-ending_with entries audit = option_map (λ a. record { entries = entries; audit = a }) audit
+abbrev pub ending_with : ℕ → Option Manner → Option Ending
+ending_with entries manner = option_map (λ m. record { entries = entries; live = m.live; audit = m.audit }) manner
 
 -- the ending of the words, which begin with a limit of entries or do not
 abbrev pub ending_or : List (List ℕ) → Option (List ℕ × List (List ℕ)) → Option Ending
-ending_or words None = ending_with MAX_ENTRIES (audit_in words)
-ending_or words (Some (number, rest)) = option_and_then (λ e. ending_with e (audit_in rest)) (positive_up_to MAX_ENTRIES number)
+ending_or words None = ending_with MAX_ENTRIES (manner_in words)
+ending_or words (Some (number, rest)) = option_and_then (λ e. ending_with e (manner_in rest)) (positive_up_to MAX_ENTRIES number)
 
--- how the words of a service end: `[--entries K] [--audit]`
+-- how the words of a service end: `[--entries K] [--live] [--audit]`
 abbrev pub ending_in : List (List ℕ) → Option Ending
 ending_in words = ending_or words (value_of (codes "--entries") words)
 
 -- the amounts with so many slots and so many connections, if the last words are right
 abbrev pub amounts_of : ℕ → Option ℕ → Option Ending → Option Amounts
-amounts_of slots stop ending = option_map (λ e. record { slots = slots; stop_after = stop; entries = e.entries; audit = e.audit }) ending
+amounts_of slots stop ending = option_map (λ e. record { slots = slots; stop_after = stop; entries = e.entries; live = e.live; audit = e.audit }) ending
 
 -- the amounts with so many slots, and the number of connections that a word says
 abbrev pub stopping : ℕ → List ℕ → List (List ℕ) → Option Amounts
@@ -86,7 +105,7 @@ doors_from doors words = Some (doors, words)
 abbrev pub planned : List ℕ → List DoorPath → Amounts → Option ServePlan
 planned root doors a =
     if not (length doors == 0) && nat_le (a.slots * length doors) MAX_SLOTS
-    then Some (record { root = root; doors = doors; slots = a.slots; stop_after = a.stop_after; limits = record { entries = a.entries; bytes = MAX_BYTES }; audit = a.audit })
+    then Some (record { root = root; doors = doors; slots = a.slots; stop_after = a.stop_after; limits = record { entries = a.entries; bytes = MAX_BYTES }; live = a.live; audit = a.audit })
     else None
 
 -- the plan of this root that the words behind it name

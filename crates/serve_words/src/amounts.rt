@@ -1,6 +1,6 @@
 // What stands behind the doors.
 ghost use Rattle.std.specs.Prelude.{◌≡◌, ◌≤◌, Some, None, IfNone, IfSome};
-ghost use Rattle.serve_words.specs.Plans.{IsInRange, amounts_in, amounts_of, audit_in, behind_slots, ending_in, entries_in, positive_up_to, stopping, value_of};
+ghost use Rattle.serve_words.specs.Plans.{IsInRange, amounts_in, amounts_of, audit_in, behind_live, behind_slots, ending_in, entries_in, manner_in, positive_up_to, stopping, value_of};
 
 use authority_model::MAX_ENTRIES;
 use pk_types::{Text, number_up_to};
@@ -12,19 +12,30 @@ pub const MAX_SLOTS: u64 = 64;
 pub const MAX_CONNECTIONS: u64 = 1_000_000;
 
 /// How much a service does: so many slots a door, so many connections a slot, if it is to end at all,
-/// and so many entries in its journal; and whether it writes the audit text of that.
+/// and so many entries in its journal; whether it looks at live processes, and whether it writes the
+/// audit text of the journal.
 #[derive(Clone, Copy)]
 pub struct Amounts {
     pub slots: u64,
     pub stop_after: Option<u64>,
     pub entries: u64,
+    pub live: bool,
     pub audit: bool,
 }
 
-/// How the words of a service end: with a limit of entries, and whether the audit text is written.
+/// Whether a service looks at live processes, and whether it writes the audit text.
+#[derive(Clone, Copy)]
+struct Manner {
+    live: bool,
+    audit: bool,
+}
+
+/// How the words of a service end: with a limit of entries, whether it looks at live processes, and
+/// whether the audit text is written.
 #[derive(Clone, Copy)]
 struct Ending {
     entries: u64,
+    live: bool,
     audit: bool,
 }
 
@@ -67,7 +78,35 @@ fn audit_in(words: &[Text]) -> Option<bool>
     }
 }
 
-/// The ending that the last words of a service say: `[--entries K] [--audit]`.
+/// The words after `--live`, where the words begin with it.
+fn behind_live(words: &[Text]) -> Option<&[Text]>
+    ensures found { IfSome result (λ rest. behind_live words.now ≡ Some rest.now) }
+    ensures none { IfNone result (behind_live words.now ≡ None) }
+{
+    match words {
+        [option, rest @ ..] if option.bytes() == b"--live".as_slice() => Some(rest),
+        _ => None,
+    }
+}
+
+/// Whether a service looks at live processes, and whether it writes the audit text, as the last words
+/// say: `[--live] [--audit]`.
+fn manner_in(words: &[Text]) -> Option<Manner>
+    ensures manner { result ≡ manner_in words.now }
+{
+    match behind_live(words) {
+        Some(rest) => {
+            let audit = audit_in(rest)?;
+            Some(Manner { live: true, audit })
+        }
+        None => {
+            let audit = audit_in(words)?;
+            Some(Manner { live: false, audit })
+        }
+    }
+}
+
+/// The ending that the last words of a service say: `[--entries K] [--live] [--audit]`.
 fn ending_in(words: &[Text]) -> Option<Ending>
     ensures ending { result ≡ ending_in words.now }
     ensures range { IfSome result (λ e. (1 ≤ e.entries) × (e.entries ≤ MAX_ENTRIES)) }
@@ -75,13 +114,18 @@ fn ending_in(words: &[Text]) -> Option<Ending>
     match value_of(words, b"--entries") {
         Some((number, rest)) => {
             let entries = positive(number.bytes(), MAX_ENTRIES)?;
-            let audit = audit_in(rest)?;
-            Some(Ending { entries, audit })
+            let Manner { live, audit } = manner_in(rest)?;
+            Some(Ending {
+                entries,
+                live,
+                audit,
+            })
         }
         None => {
-            let audit = audit_in(words)?;
+            let Manner { live, audit } = manner_in(words)?;
             Some(Ending {
                 entries: MAX_ENTRIES,
+                live,
                 audit,
             })
         }
@@ -96,13 +140,21 @@ fn with_ending(slots: u64, stop_after: Option<u64>, ending: Option<Ending>) -> O
     ensures amounts { result ≡ amounts_of slots stop_after ending }
     ensures range { IfSome result IsInRange }
 {
-    let Some(Ending { entries, audit }) = ending else {
+    let Some(
+        Ending {
+            entries,
+            live,
+            audit,
+        },
+    ) = ending
+    else {
         return None;
     };
     Some(Amounts {
         slots,
         stop_after,
         entries,
+        live,
         audit,
     })
 }

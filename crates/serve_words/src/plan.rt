@@ -19,6 +19,8 @@ pub struct ServePlan {
     pub stop_after: Option<u32>,
     /// The limits of the journal.
     pub limits: Limits,
+    /// Whether each connection looks at the process that a call names, before that call.
+    pub live: bool,
     /// Whether the audit text of the journal is written in place of all lines.
     pub audit: bool,
 }

@@ -76,12 +76,14 @@ fn planned(root: Text, doors: DoorList, amounts: Amounts) -> Option<ServePlan>
             entries: amounts.entries,
             bytes: MAX_BYTES,
         },
+        live: amounts.live,
         audit: amounts.audit,
     })
 }
 
 /// The plan that the words behind `serve` name: `--root DIR`, one or more times `--door UID:PATH`,
-/// `--slots N`, and then `--stop-after K`, `--entries K` and `--audit`, each or not, in this order.
+/// `--slots N`, and then `--stop-after K`, `--entries K`, `--live` and `--audit`, each or not, in this
+/// order.
 ///
 /// `None` exactly where the words are not of this form.
 ///

@@ -6,7 +6,9 @@ use mathlib.Core.List.{IsPrefix}
 use Rattle.history_lock.specs.Known.{Known}
 use Rattle.pk_outside.specs.Doors.{DoorTold}
 use Rattle.pk_outside.specs.Links.{LinkBack}
-use Rattle.pk_outside.specs.Stations.{DoorBack, StationTold, MakesDoor, MakesClock, MakesSalt, Shuts, first_list}
+use Rattle.pk_outside.specs.Sightings.{Look}
+use Rattle.pk_outside.specs.declared.sights.Sighted.{Sighted}
+use Rattle.pk_outside.specs.Stations.{DoorBack, StationTold, MakesDoor, MakesClock, MakesSalt, MakesSights, Shuts, first_list}
 use Rattle.authority_model.specs.declared.journal.Item.{Item}
 use Rattle.authority_model.specs.declared.journal.Limits.{Limits}
 use Rattle.service_slots.specs.declared.line.Line.{Line}
@@ -14,7 +16,7 @@ use Rattle.service_slots.specs.declared.stop.SlotStop.{SlotStop}
 use Rattle.service_slots.specs.Doors.{DoorsAreDone, IsDone}
 use Rattle.service_slots.specs.Served.{Served, SlotOf, Slots, SlotsOf}
 use Rattle.service_slots.specs.Stops.{HasServedAll, IsStopped}
-use Rattle.service_slots.proofs.Told.{shuts_from, door_from, clock_from, salt_from}
+use Rattle.service_slots.proofs.Told.{shuts_from, door_from, clock_from, salt_from, sights_from}
 use Rattle.service_slots.proofs.Growing.{served_longer}
 
 -- the same of a longer history
@@ -86,3 +88,11 @@ slot_begun H uid owner path slot t0 t1 t2 t3 door clock_left clock_gave salt_lef
         let r_is : readings ≡ [] = cc (r) in
         let w_is : words ≡ [] = cc (w) in
         (ap (λ (x : DoorTold). x.uid) door_is ∙ sym is_owner, rw (ap (λ (x : DoorTold). x.taken) door_is, none, r_is, w_is) (refl, refl))
+
+-- the same where looks at processes were made too
+pub live_slot_begun : (H : List Item) (uid owner : ℕ) (path : List ℕ) (slot : ℕ) (t0 t1 t2 t3 t4 : Option StationTold) (door : Option DoorTold) (clock_left clock_gave salt_left salt_gave : Option (List ℕ)) (sights_left : Option (List Sighted)) (sights_gave : Option (List Look)) (lines : List Line) (now : StationTold)
+    → MakesDoor uid path slot t0 t1 door → MakesClock t1 t2 clock_left clock_gave → MakesSalt t2 t3 salt_left salt_gave → MakesSights t3 t4 sights_left sights_gave → owner ≡ uid → lines ≡ [] → t4 ≡ Some now
+    → SlotOf H owner door clock_gave salt_gave lines
+live_slot_begun H uid owner path slot t0 t1 t2 t3 t4 door clock_left clock_gave salt_left salt_gave sights_left sights_gave lines now makes clock salt sights is_owner none tells =
+    let (s3, is3, now_is) = sights_from t3 t4 sights_left sights_gave now sights tells in
+    slot_begun H uid owner path slot t0 t1 t2 t3 door clock_left clock_gave salt_left salt_gave lines s3 makes clock salt is_owner none is3

@@ -4,3 +4,4 @@ pub mod Fresh
 pub mod Backs
 pub mod Stopping
 pub mod Same
+pub mod Watching

@@ -13,8 +13,10 @@ use Rattle.authority_model.specs.declared.journal.Item.{Item}
 use Rattle.authority_model.specs.declared.journal.Limits.{Limits}
 use Rattle.shared_authority.specs.Journals.{IsJournal, caller_of}
 use Rattle.shared_authority.specs.Lasting.{fits_lasts}
-use Rattle.connection_serve.specs.declared.ends.End.{End}
 use Rattle.connection_serve.specs.declared.ends.End.TheVariants as end
+use Rattle.connection_serve.specs.declared.ends.LiveEnd.{LiveEnd}
+use Rattle.connection_serve.specs.declared.ends.LiveEnd.TheVariants as live
+use Rattle.connection_serve.specs.Ends.{plain_of}
 use Rattle.connection_serve.specs.Headline.{Serves}
 use Rattle.service_slots.specs.declared.line.Line.{Line}
 use Rattle.service_slots.specs.declared.stop.SlotStop.{SlotStop}
@@ -33,38 +35,39 @@ pub record AfterLine (limits : Limits) (m : Known Item) (told : Option DoorTold)
 
 -- the connection ended by this, and its line is the last
 pub after_line : (limits : Limits) (uid : ℕ) (v w m : Known Item) (left0 left held0 held gave0 gave drawn0 drawn : Option (List ℕ)) (read_faults0 read_faults write_faults0 write_faults : ℕ)
-    (told : Option DoorTold) (faults : ℕ) (lines : List Line) (number owner : ℕ) (end : End)
-    → Serves limits uid v w left0 left held0 held gave0 gave drawn0 drawn read_faults0 read_faults write_faults0 write_faults end
+    (told : Option DoorTold) (faults : ℕ) (lines : List Line) (number owner : ℕ) (by : Option ℕ) (end : LiveEnd)
+    → Serves limits uid v w left0 left held0 held gave0 gave drawn0 drawn read_faults0 read_faults write_faults0 write_faults (plain_of end)
     → IsPrefix w.history m.history → IsJournal m.history → w.made ≤ m.made → m.made ≤ MOST_PASSES → NoneEnded lines
-    → AfterLine limits m told faults (lines ++ record { number = number; uid = owner; end = end } ∷ []) (stop_after end)
-after_line limits uid v w m left0 left held0 held gave0 gave drawn0 drawn r0 r f0 f told faults lines number owner (end.Ended cause) s longer legal made top none = record {
+    → AfterLine limits m told faults (lines ++ record { number = number; uid = owner; sighter = by; end = end } ∷ []) (stop_after end)
+after_line limits uid v w m left0 left held0 held gave0 gave drawn0 drawn r0 r f0 f told faults lines number owner by (live.Plain (end.Ended cause)) s longer legal made top none = record {
   goes_on = tt;
   stops = (λ most. (
     fits_lasts limits cause w.history m.history w.made m.made s.ended legal longer made top,
-    inr (record { before = lines; last = record { number = number; uid = owner; end = end.Ended cause }; lines_are = refl; by = refl; others = none }),
+    inr (record { before = lines; last = record { number = number; uid = owner; sighter = by; end = live.Plain (end.Ended cause) }; lines_are = refl; by = refl; others = none }),
   ));
 }
-after_line limits uid v w m left0 left held0 held gave0 gave drawn0 drawn r0 r f0 f told faults lines number owner end.WriteFault s longer legal made top none = record { goes_on = none_more lines _ none refl; stops = tt }
-after_line limits uid v w m left0 left held0 held gave0 gave drawn0 drawn r0 r f0 f told faults lines number owner end.ReadFault s longer legal made top none = record { goes_on = none_more lines _ none refl; stops = tt }
-after_line limits uid v w m left0 left held0 held gave0 gave drawn0 drawn r0 r f0 f told faults lines number owner (end.BadShake fault) s longer legal made top none = record { goes_on = none_more lines _ none refl; stops = tt }
-after_line limits uid v w m left0 left held0 held gave0 gave drawn0 drawn r0 r f0 f told faults lines number owner end.ShakeCut s longer legal made top none = record { goes_on = none_more lines _ none refl; stops = tt }
-after_line limits uid v w m left0 left held0 held gave0 gave drawn0 drawn r0 r f0 f told faults lines number owner (end.BadBytes _ _) s longer legal made top none = record { goes_on = none_more lines _ none refl; stops = tt }
-after_line limits uid v w m left0 left held0 held gave0 gave drawn0 drawn r0 r f0 f told faults lines number owner (end.Truncated rest) s longer legal made top none = record { goes_on = none_more lines _ none refl; stops = tt }
-after_line limits uid v w m left0 left held0 held gave0 gave drawn0 drawn r0 r f0 f told faults lines number owner end.Done s longer legal made top none = record { goes_on = none_more lines _ none refl; stops = tt }
-after_line limits uid v w m left0 left held0 held gave0 gave drawn0 drawn r0 r f0 f told faults lines number owner end.NoMemory s longer legal made top none = record { goes_on = none_more lines _ none refl; stops = tt }
+after_line limits uid v w m left0 left held0 held gave0 gave drawn0 drawn r0 r f0 f told faults lines number owner by live.SightFault s longer legal made top none = record { goes_on = none_more lines _ none refl; stops = tt }
+after_line limits uid v w m left0 left held0 held gave0 gave drawn0 drawn r0 r f0 f told faults lines number owner by (live.Plain end.WriteFault) s longer legal made top none = record { goes_on = none_more lines _ none refl; stops = tt }
+after_line limits uid v w m left0 left held0 held gave0 gave drawn0 drawn r0 r f0 f told faults lines number owner by (live.Plain end.ReadFault) s longer legal made top none = record { goes_on = none_more lines _ none refl; stops = tt }
+after_line limits uid v w m left0 left held0 held gave0 gave drawn0 drawn r0 r f0 f told faults lines number owner by (live.Plain (end.BadShake fault)) s longer legal made top none = record { goes_on = none_more lines _ none refl; stops = tt }
+after_line limits uid v w m left0 left held0 held gave0 gave drawn0 drawn r0 r f0 f told faults lines number owner by (live.Plain end.ShakeCut) s longer legal made top none = record { goes_on = none_more lines _ none refl; stops = tt }
+after_line limits uid v w m left0 left held0 held gave0 gave drawn0 drawn r0 r f0 f told faults lines number owner by (live.Plain (end.BadBytes _ _)) s longer legal made top none = record { goes_on = none_more lines _ none refl; stops = tt }
+after_line limits uid v w m left0 left held0 held gave0 gave drawn0 drawn r0 r f0 f told faults lines number owner by (live.Plain (end.Truncated rest)) s longer legal made top none = record { goes_on = none_more lines _ none refl; stops = tt }
+after_line limits uid v w m left0 left held0 held gave0 gave drawn0 drawn r0 r f0 f told faults lines number owner by (live.Plain end.Done) s longer legal made top none = record { goes_on = none_more lines _ none refl; stops = tt }
+after_line limits uid v w m left0 left held0 held gave0 gave drawn0 drawn r0 r f0 f told faults lines number owner by (live.Plain end.NoMemory) s longer legal made top none = record { goes_on = none_more lines _ none refl; stops = tt }
 
 -- the same once the connection's pass has met the slot's
 pub after_next : (limits : Limits) (uid : ℕ) (v w m n : Known Item) (left0 left held0 held gave0 gave drawn0 drawn : Option (List ℕ)) (read_faults0 read_faults write_faults0 write_faults : ℕ)
-    (told : Option DoorTold) (faults : ℕ) (lines all : List Line) (number owner : ℕ) (end : End) (why : Option SlotStop) {s : Known Item}
-    → Serves limits uid v w left0 left held0 held gave0 gave drawn0 drawn read_faults0 read_faults write_faults0 write_faults end
+    (told : Option DoorTold) (faults : ℕ) (lines all : List Line) (number owner : ℕ) (by : Option ℕ) (end : LiveEnd) (why : Option SlotStop) {s : Known Item}
+    → Serves limits uid v w left0 left held0 held gave0 gave drawn0 drawn read_faults0 read_faults write_faults0 write_faults (plain_of end)
     → Learned caller_of IsJournal s m → Learned caller_of IsJournal w n → m.history ≡ n.history → m.made ≡ n.made → m.made ≤ MOST_PASSES → NoneEnded lines
-    → all ≡ lines ++ record { number = number; uid = owner; end = end } ∷ [] → why ≡ stop_after end
+    → all ≡ lines ++ record { number = number; uid = owner; sighter = by; end = end } ∷ [] → why ≡ stop_after end
     → AfterLine limits m told faults all why
-after_next limits uid v w m n left0 left held0 held gave0 gave drawn0 drawn r0 r f0 f told faults lines all number owner end why served first second same_history same_made top none all_is why_is =
+after_next limits uid v w m n left0 left held0 held gave0 gave drawn0 drawn r0 r f0 f told faults lines all number owner by end why served first second same_history same_made top none all_is why_is =
     let known : IsPrefix w.history m.history = subst (λ (h : List Item). IsPrefix w.history h) (sym same_history) (learned_prefix w n second) in
     let grown = second.made in
     let made : w.made ≤ m.made = omega (arith, grown, same_made) in
-    let now = after_line limits uid v w m left0 left held0 held gave0 gave drawn0 drawn r0 r f0 f told faults lines number owner end served known first.legal made top none in
+    let now = after_line limits uid v w m left0 left held0 held gave0 gave drawn0 drawn r0 r f0 f told faults lines number owner by end served known first.legal made top none in
     rw (all_is, why_is) now
 
 -- a slot that was shut had stopped for this, as the control pass knows since

@@ -1,10 +1,12 @@
 -- What an object told before a call, where it tells something after it.
-use Rattle.std.proofs.Common.{◌≡◌, ◌++◌, [], ◌∷◌, List, ℕ, Option, None, Some, refl, sym, ap, ◌∙◌, subst, append_assoc}
+use Rattle.std.proofs.Common.{◌≡◌, ◌++◌, [], ◌∷◌, List, ℕ, Option, None, Some, false, true, refl, sym, ap, ◌∙◌, subst, append_assoc}
 use Rattle.std.specs.Prelude.{map}
 use Rattle.std.proofs.lemmas.List.{map-append}
 use Rattle.pk_outside.specs.Links.{Origin, LinkBack, EndsTell, bytes_of}
 use Rattle.pk_outside.specs.Doors.{DoorTold, GivesLink, TakesBack}
-use Rattle.pk_outside.specs.Stations.{DoorBack, StationTold, Shuts, MakesDoor, MakesClock, MakesSalt, first_list, other_lists}
+use Rattle.pk_outside.specs.Sightings.{Look}
+use Rattle.pk_outside.specs.declared.sights.Sighted.{Sighted}
+use Rattle.pk_outside.specs.Stations.{DoorBack, StationTold, Shuts, MakesDoor, MakesClock, MakesSalt, MakesSights, first_list, other_lists}
 use Rattle.pk_outside.specs.Streams.{Gave, Got, IsUsedUp}
 use Rattle.service_slots.specs.Doors.{DoorMade, door_made, made_of, OpensDoor, ShutsDoor}
 
@@ -108,9 +110,17 @@ salt_from None (Some x) left gave now m e = absurd m
 salt_from (Some b) None left gave now m e = absurd m
 salt_from (Some b) (Some x) left gave now (l, g, is) e = let same : x ≡ now = cc (e) in (b, refl, g, sym same ∙ is)
 
+-- what a station was before it made looks at processes
+pub sights_from : (before after : Option StationTold) (left : Option (List Sighted)) (gave : Option (List Look)) (now : StationTold) → MakesSights before after left gave → after ≡ Some now
+    → (old : StationTold) × (before ≡ Some old) × (now ≡ record old { sights = other_lists old.sights })
+sights_from None None left gave now m e = absurd (cc (e))
+sights_from None (Some x) left gave now m e = absurd m
+sights_from (Some b) None left gave now m e = absurd m
+sights_from (Some b) (Some x) left gave now (l, g, is) e = let same : x ≡ now = cc (e) in (b, refl, sym same ∙ is)
+
 -- a door, a clock and a salt were made, one after another: this is the door
 pub opens_door : (uid : ℕ) (path : List ℕ) (slot : ℕ) (t0 t1 t2 t3 : Option StationTold) (door : Option DoorTold) (clock_left clock_gave salt_left salt_gave : Option (List ℕ))
-    → MakesDoor uid path slot t0 t1 door → MakesClock t1 t2 clock_left clock_gave → MakesSalt t2 t3 salt_left salt_gave → OpensDoor uid path slot t0 t3 (made_of door)
+    → MakesDoor uid path slot t0 t1 door → MakesClock t1 t2 clock_left clock_gave → MakesSalt t2 t3 salt_left salt_gave → OpensDoor uid path slot false t0 t3 (made_of door)
 opens_door uid path slot t0 t1 t2 t3 door clock_left clock_gave salt_left salt_gave makes clock salt = record {
   where_told = (λ now e.
       let (s2, is2, no_word, now_is) = salt_from t2 t3 salt_left salt_gave now salt e in
@@ -121,4 +131,14 @@ opens_door uid path slot t0 t1 t2 t3 door clock_left clock_gave salt_left salt_g
         ap made_of door_is,
         now_is ∙ (ap (λ (t : StationTold). record t { salts = other_lists t.salts }) s2_is ∙ ap (λ (t : StationTold). record t { clocks = other_lists t.clocks; salts = other_lists t.salts }) s1_is),
       ));
+}
+
+-- a door, a clock, a salt and looks at processes were made, one after another: this is the door
+pub opens_live_door : (uid : ℕ) (path : List ℕ) (slot : ℕ) (t0 t3 t4 : Option StationTold) (made : Option DoorMade) (sights_left : Option (List Sighted)) (sights_gave : Option (List Look))
+    → OpensDoor uid path slot false t0 t3 made → MakesSights t3 t4 sights_left sights_gave → OpensDoor uid path slot true t0 t4 made
+opens_live_door uid path slot t0 t3 t4 made sights_left sights_gave opens sights = record {
+  where_told = (λ now e.
+      let (s3, is3, now_is) = sights_from t3 t4 sights_left sights_gave now sights e in
+      let (s0, is0, made_is, s3_is) = opens.where_told s3 is3 in
+      (s0, is0, made_is, now_is ∙ ap (λ (t : StationTold). record t { sights = other_lists t.sights }) s3_is));
 }

@@ -7,20 +7,21 @@ use Rattle.pk_outside.specs.Doors.{DoorTold, IsEmptied}
 use Rattle.authority_model.specs.declared.journal.Item.{Item}
 use Rattle.authority_model.specs.declared.journal.Limits.{Limits}
 use Rattle.shared_authority.specs.Journals.{Fits}
-use Rattle.connection_serve.specs.declared.ends.End.{End}
 use Rattle.connection_serve.specs.declared.ends.End.TheVariants as end
+use Rattle.connection_serve.specs.declared.ends.LiveEnd.{LiveEnd}
+use Rattle.connection_serve.specs.declared.ends.LiveEnd.TheVariants as live
 use Rattle.service_slots.specs.declared.line.Line.{Line}
 use Rattle.service_slots.specs.declared.stop.SlotStop.{SlotStop}
 use Rattle.service_slots.specs.declared.stop.SlotStop.TheVariants as stop
 
 -- The cause by which the lock ended a connection, if it did.
-abbrev pub ended_by : End → Option EndCause
-ended_by (end.Ended cause) = Some cause
+abbrev pub ended_by : LiveEnd → Option EndCause
+ended_by (live.Plain (end.Ended cause)) = Some cause
 ended_by _ = None
 
 -- What a connection's end makes of its slot: one that the lock ended stops it.
-abbrev pub stop_after : End → Option SlotStop
-stop_after (end.Ended cause) = Some (stop.Ended cause)
+abbrev pub stop_after : LiveEnd → Option SlotStop
+stop_after (live.Plain (end.Ended cause)) = Some (stop.Ended cause)
 stop_after _ = None
 
 -- The lock ended none of the connections.

@@ -14,7 +14,7 @@ use crate::slot::Slot;
 use crate::slots::serve_slots;
 use authority_model::Event;
 use history_lock::{EndCause, Pass, TableName};
-use pk_outside::{Clock, Door, Salt, Tree};
+use pk_outside::{Clock, Door, Salt, Sights, Tree};
 use pk_types::Text;
 use serve_loader::{LoaderEnd, serve_loader};
 use shared_authority::{Kept, LimitsName, Shared};
@@ -24,7 +24,7 @@ use std::thread::{Threads, join};
 
 /// What is left when all slots and the loader have ended.
 #[derive(Drop)]
-pub struct EndedService<L: LimitsName, T: TableName, D: Door, C: Clock, S: Salt> {
+pub struct EndedService<L: LimitsName, T: TableName, D: Door, C: Clock, S: Salt, G: Sights> {
     /// The loader's pass.
     pub zero: Pass<Kept<L>, T>,
     /// How the loader ended.
@@ -36,16 +36,16 @@ pub struct EndedService<L: LimitsName, T: TableName, D: Door, C: Clock, S: Salt>
     /// Why the loader could not be told to stop, if the lock had ended.
     pub stopped: Result<(), EndCause>,
     /// The slots, all of which have stopped.
-    pub slots: Vec<Slot<L, T, D, C, S>>,
+    pub slots: Vec<Slot<L, T, D, C, S, G>>,
 }
 
 /// Submits Stop by the control pass, with the moment 0 and the salt 0. All of these slots have
 /// stopped by then. Where Stop is refused the lock is ended, and the kept cause is answered.
-fn stop_loader<L: LimitsName, T: TableName, D: Door, C: Clock, S: Salt, R: Wait>(
+fn stop_loader<L: LimitsName, T: TableName, D: Door, C: Clock, S: Salt, G: Sights, R: Wait>(
     rt: &R,
     shared: &Shared<L, T>,
     _most: Option<u32>,
-    _slots: &[Slot<L, T, D, C, S>],
+    _slots: &[Slot<L, T, D, C, S, G>],
     control: &mut Pass<Kept<L>, T>,
 ) -> Result<(), EndCause>
     requires { All (λ s. IsStopped L.limits _most s.pass (D.told s.door) (D.faults s.door) s.lines.items s.stop) _slots.now }
@@ -69,6 +69,7 @@ fn serve_then_stop<
     D: Door,
     C: Clock,
     S: Salt,
+    G: Sights,
     R: Threads + Wait + Sync,
 >(
     rt: &'a R,
@@ -76,7 +77,7 @@ fn serve_then_stop<
     shared: &'a Shared<L, T>,
     most: Option<u32>,
     control: &mut Pass<Kept<L>, T>,
-    slots: &mut Vec<Slot<L, T, D, C, S>>,
+    slots: &mut Vec<Slot<L, T, D, C, S, G>>,
 ) -> Result<(), EndCause>
     requires none_ended { All (λ s. NoneEnded s.lines.items) slots.old.items }
     requires may { MayServe D.Link.Out.allowed }
@@ -101,6 +102,7 @@ pub fn serve_beside_loader<
     D: Door,
     C: Clock,
     S: Salt,
+    G: Sights,
     R: Threads + Wait + Sync,
 >(
     rt: &'a R,
@@ -111,8 +113,8 @@ pub fn serve_beside_loader<
     tree: &mut F,
     mut zero: Pass<Kept<L>, T>,
     mut control: Pass<Kept<L>, T>,
-    mut slots: Vec<Slot<L, T, D, C, S>>,
-) -> EndedService<L, T, D, C, S>
+    mut slots: Vec<Slot<L, T, D, C, S, G>>,
+) -> EndedService<L, T, D, C, S, G>
     requires zero { zero.number ≡ 0 }
     requires fresh { uid_of (past_of zero.history) 0 ≡ None }
     requires none_ended { All (λ s. NoneEnded s.lines.items) slots.items }
@@ -141,7 +143,7 @@ pub fn serve_beside_loader<
         move || -> (
             Pass<Kept<L>, T>,
             Result<(), EndCause>,
-            Vec<Slot<L, T, D, C, S>>,
+            Vec<Slot<L, T, D, C, S, G>>,
         )
             requires none_ended { All (λ s. NoneEnded s.lines.items) slots.items }
             requires may { MayServe D.Link.Out.allowed }

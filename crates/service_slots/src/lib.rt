@@ -1,5 +1,6 @@
 //! Slots beside each other. A slot has a door with a clock and a salt of its own, and serves the
-//! links of its door one after another. Each served connection leaves a line.
+//! links of its door one after another. Each served connection leaves a line. Where a slot has looks at
+//! processes, its connections look.
 //!
 //! All slots share one authority, and run beside each other and beside the loader. What each of
 //! them did is said of its own pass's history alone, and goes on to hold as that history grows
@@ -11,6 +12,7 @@ mod admitting;
 mod beside;
 mod line;
 mod opening;
+mod serving;
 mod slot;
 mod slots;
 mod stop;

@@ -1,5 +1,5 @@
 // What is written of a connection.
-use connection_serve::End;
+use connection_serve::LiveEnd;
 
 /// A connection that was served.
 #[derive(Clone, Copy, PartialEq, Eq, Debug)]
@@ -8,6 +8,8 @@ pub struct Line {
     pub number: u32,
     /// The user id of its door.
     pub uid: u32,
+    /// The number of its sighter, if it looked at processes.
+    pub sighter: Option<u32>,
     /// How it ended.
-    pub end: End,
+    pub end: LiveEnd,
 }

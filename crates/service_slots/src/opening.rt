@@ -20,8 +20,8 @@ use pk_types::Text;
 use shared_authority::{Kept, LimitsName, Shared};
 use std::alloc::Global;
 
-/// Makes a door with a clock and a salt, and a slot of them that has served nothing. `number`
-/// numbers the doors of one path.
+/// Makes a door with a clock and a salt, and with looks at processes where its connections are to
+/// look, and a slot of them that has served nothing. `number` numbers the doors of one path.
 ///
 /// # Errors
 /// As of the station's door. The station then tells what it told.
@@ -31,18 +31,23 @@ pub fn open_slot<L: LimitsName, T: TableName, N: Station>(
     uid: u32,
     path: &Text,
     number: u32,
+    live: bool,
     pass: Pass<Kept<L>, T>,
-) -> Result<Slot<L, T, N::Door, N::Clock, N::Salt>, StationRefused>
+) -> Result<Slot<L, T, N::Door, N::Clock, N::Salt, N::Sights>, StationRefused>
     ensures slot { IfOk result (λ slot. (now : StationTold) (H : List Item) → N.told station.new ≡ Some now → SlotOf H (N.Door.owner slot.door) (N.Door.told slot.door) (N.Clock.gave slot.clock) (N.Salt.gave slot.salt) slot.lines.items) }
     ensures new { IfOk result (λ slot. (slot.pass ≡ pass) × (slot.lines.items ≡ []) × (slot.stop ≡ None)) }
-    ensures door { IfOk result (λ slot. OpensDoor uid path.now number (N.told station.old) (N.told station.new) (made_of (N.Door.told slot.door))) }
+    ensures door { IfOk result (λ slot. OpensDoor uid path.now number live (N.told station.old) (N.told station.new) (made_of (N.Door.told slot.door))) }
     ensures refused { OnErr result (N.told station.new ≡ N.told station.old) }
     ensures cause { StationCause (N.faults station.old) (N.faults station.new) result }
 {
     let door = station.door(uid, path, number)?;
     let clock = station.clock();
     let salt = station.salt();
-    Ok(Slot::new(alloc, pass, door, clock, salt))
+    let mut sights = None;
+    if live {
+        sights = Some(station.sights());
+    }
+    Ok(Slot::new(alloc, pass, door, clock, salt, sights))
 }
 
 /// What is left of a slot that was shut.
@@ -60,7 +65,7 @@ pub fn shut_slot<L: LimitsName, T: TableName, N: Station>(
     shared: &Shared<L, T>,
     control: &mut Pass<Kept<L>, T>,
     station: &mut N,
-    slot: Slot<L, T, N::Door, N::Clock, N::Salt>,
+    slot: Slot<L, T, N::Door, N::Clock, N::Salt, N::Sights>,
 ) -> ShutSlot
     ensures slots { (lines : List Line) → SlotOf slot.pass.history (N.Door.owner slot.door) (N.Door.told slot.door) (N.Clock.gave slot.clock) (N.Salt.gave slot.salt) slot.lines.items
         → SlotsOf control.old.history (N.told station.old) lines → SlotsOf control.new.history (N.told station.new) (lines ++ result.lines.items) }
@@ -79,6 +84,7 @@ pub fn shut_slot<L: LimitsName, T: TableName, N: Station>(
         door,
         clock,
         salt,
+        sights: _sights,
         lines,
         stop,
     } = slot;

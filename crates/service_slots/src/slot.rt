@@ -3,25 +3,28 @@ ghost use Rattle.std.specs.Prelude.{◌≡◌, ◌<◌, [], None, Some, ℕ, Opt
 ghost use Rattle.std.specs.Vec.{vec_capacity};
 ghost use Rattle.connection_serve.specs.Promises.{MayServe};
 ghost use Rattle.connection_serve.specs.Headline.{IsFresh};
+ghost use Rattle.history_lock.specs.Entries.{NoneBy};
+ghost use Rattle.shared_authority.specs.Journals.{caller_of};
 ghost use Rattle.service_slots.specs.Doors.{made_of};
 ghost use Rattle.service_slots.specs.Served.{SlotOf};
 ghost use Rattle.service_slots.specs.Stops.{NoneEnded, StopsAs};
 
 use crate::accepting::next_link;
+use crate::admitting::Passes;
 use crate::line::Line;
+use crate::serving::serve_passes;
 use crate::stop::SlotStop;
-use connection_serve::serve_connection;
 use history_lock::{Pass, TableName};
-use pk_outside::{Clock, Door, Link, Salt};
+use pk_outside::{Clock, Door, Link, Salt, Sights};
 use shared_authority::{Kept, LimitsName, Shared};
 use std::alloc::Global;
 use std::sync::Wait;
 use std::thread::Threads;
 
-/// A door with its clock and its salt, the pass by which it shares the authority, and the lines of
+/// A door with its clock, its salt and perhaps its looks at processes, the pass by which it shares the authority, and the lines of
 /// the connections that were served.
 #[derive(Drop)]
-pub struct Slot<L: LimitsName, T: TableName, D: Door, C: Clock, S: Salt> {
+pub struct Slot<L: LimitsName, T: TableName, D: Door, C: Clock, S: Salt, G: Sights> {
     /// The pass that admits the passes of its connections.
     pub pass: Pass<Kept<L>, T>,
     /// Where its connections come in.
@@ -30,15 +33,24 @@ pub struct Slot<L: LimitsName, T: TableName, D: Door, C: Clock, S: Salt> {
     pub clock: C,
     /// The random words of its connections.
     pub salt: S,
+    /// The looks at the processes that its connections name, if they are to look.
+    pub sights: Option<G>,
     /// One line for each connection, in the order of serving.
     pub lines: Vec<Line>,
     /// Why it stopped, once it has.
     pub stop: Option<SlotStop>,
 }
 
-impl<L: LimitsName, T: TableName, D: Door, C: Clock, S: Salt> Slot<L, T, D, C, S> {
+impl<L: LimitsName, T: TableName, D: Door, C: Clock, S: Salt, G: Sights> Slot<L, T, D, C, S, G> {
     /// A slot that has served nothing. It takes no memory.
-    pub fn new(alloc: Global, pass: Pass<Kept<L>, T>, door: D, clock: C, salt: S) -> Self
+    pub fn new(
+        alloc: Global,
+        pass: Pass<Kept<L>, T>,
+        door: D,
+        clock: C,
+        salt: S,
+        sights: Option<G>,
+    ) -> Self
         ensures objects { (result.door ≡ door) × (result.clock ≡ clock) × (result.salt ≡ salt) }
         ensures pass { result.pass ≡ pass }
         ensures lines { result.lines.items ≡ [] }
@@ -49,6 +61,7 @@ impl<L: LimitsName, T: TableName, D: Door, C: Clock, S: Salt> Slot<L, T, D, C, S
             door,
             clock,
             salt,
+            sights,
             lines: Vec::new(alloc),
             stop: None,
         }
@@ -65,7 +78,7 @@ impl<L: LimitsName, T: TableName, D: Door, C: Clock, S: Salt> Slot<L, T, D, C, S
     }
 }
 
-/// Accepts a link, serves it with these two passes, gives it back to the door, and notes its line.
+/// Accepts a link, serves it with these passes, gives it back to the door, and notes its line.
 /// Answers why the slot stops, where it does.
 pub(crate) fn serve_next<
     'a,
@@ -74,17 +87,18 @@ pub(crate) fn serve_next<
     D: Door,
     C: Clock,
     S: Salt,
+    G: Sights,
     R: Threads + Wait + Sync,
 >(
     rt: &'a R,
     alloc: Global,
     shared: &'a Shared<L, T>,
-    slot: &mut Slot<L, T, D, C, S>,
-    mut pass: Pass<Kept<L>, T>,
-    mut collector: Pass<Kept<L>, T>,
+    slot: &mut Slot<L, T, D, C, S, G>,
+    passes: Passes<L, T>,
 ) -> Option<SlotStop>
     requires room { vec_len slot.old.lines < vec_capacity slot.old.lines }
-    requires fresh { IsFresh pass collector }
+    requires fresh { IsFresh passes.pass passes.collector }
+    requires sighter { IfSome passes.sighter (λ sighter. NoneBy caller_of sighter.number sighter.history) }
     requires none_ended { NoneEnded slot.old.lines.items }
     requires may { MayServe D.Link.Out.allowed }
     ensures slot { SlotOf slot.old.pass.history (D.owner slot.old.door) (D.told slot.old.door) (C.gave slot.old.clock) (S.gave slot.old.salt) slot.old.lines.items
@@ -99,21 +113,33 @@ pub(crate) fn serve_next<
     };
     let mut ends = link.split();
     let uid = slot.door.uid();
-    let end = serve_connection(
+    let Passes {
+        mut pass,
+        mut collector,
+        sighter,
+    } = passes;
+    let (end, sighter) = serve_passes(
         rt,
         alloc,
         shared,
         &mut pass,
         &mut collector,
+        sighter,
         uid,
         &mut slot.clock,
         &mut slot.salt,
+        &mut slot.sights,
         &mut ends.input,
         &mut ends.output,
     );
     slot.door.back(ends);
     shared.meet(&mut slot.pass, &mut pass);
     let number = pass.number();
-    slot.lines.push_reserved(Line { number, uid, end });
+    slot.lines.push_reserved(Line {
+        number,
+        uid,
+        sighter,
+        end,
+    });
     SlotStop::of_end(end)
 }

@@ -6,17 +6,17 @@ ghost use Rattle.service_slots.specs.Doors.{made_of};
 ghost use Rattle.service_slots.specs.Served.{SlotOf};
 ghost use Rattle.service_slots.specs.Stops.{NoneEnded, StopsAs, IsStopped};
 
-use crate::admitting::admit_two;
+use crate::admitting::admit_connection;
 use crate::slot::{Slot, serve_next};
 use crate::stop::SlotStop;
 use history_lock::TableName;
-use pk_outside::{Clock, Door, Salt};
+use pk_outside::{Clock, Door, Salt, Sights};
 use shared_authority::{LimitsName, Shared};
 use std::alloc::Global;
 use std::sync::Wait;
 use std::thread::{Threads, for_each_mut};
 
-/// One turn of a slot: room for a line, two passes, a link that is served. Answers why the slot
+/// One turn of a slot: room for a line, the passes of a connection, a link that is served. Answers why the slot
 /// stops, where it does.
 fn turn<
     'a,
@@ -25,13 +25,14 @@ fn turn<
     D: Door,
     C: Clock,
     S: Salt,
+    G: Sights,
     R: Threads + Wait + Sync,
 >(
     rt: &'a R,
     alloc: Global,
     shared: &'a Shared<L, T>,
     most: Option<u32>,
-    slot: &mut Slot<L, T, D, C, S>,
+    slot: &mut Slot<L, T, D, C, S, G>,
 ) -> Option<SlotStop>
     requires none_ended { NoneEnded slot.old.lines.items }
     requires may { MayServe D.Link.Out.allowed }
@@ -47,8 +48,9 @@ fn turn<
     if slot.lines.reserve(1).is_err() {
         return Some(SlotStop::NoMemory);
     }
-    match admit_two(rt, shared, &mut slot.pass) {
-        Ok((pass, collector)) => serve_next(rt, alloc, shared, slot, pass, collector),
+    let live = slot.sights.is_some();
+    match admit_connection(rt, shared, &mut slot.pass, live) {
+        Ok(passes) => serve_next(rt, alloc, shared, slot, passes),
         Err(cause) => Some(SlotStop::Ended { cause }),
     }
 }
@@ -61,13 +63,14 @@ fn serve_slot<
     D: Door,
     C: Clock,
     S: Salt,
+    G: Sights,
     R: Threads + Wait + Sync,
 >(
     rt: &'a R,
     alloc: Global,
     shared: &'a Shared<L, T>,
     most: Option<u32>,
-    slot: &mut Slot<L, T, D, C, S>,
+    slot: &mut Slot<L, T, D, C, S, G>,
 )
     requires none_ended { NoneEnded slot.old.lines.items }
     requires may { MayServe D.Link.Out.allowed }
@@ -97,13 +100,14 @@ pub fn serve_slots<
     D: Door,
     C: Clock,
     S: Salt,
+    G: Sights,
     R: Threads + Wait + Sync,
 >(
     rt: &'a R,
     alloc: Global,
     shared: &'a Shared<L, T>,
     most: Option<u32>,
-    slots: &mut [Slot<L, T, D, C, S>],
+    slots: &mut [Slot<L, T, D, C, S, G>],
 )
     requires none_ended { All (λ s. NoneEnded s.lines.items) slots.old }
     requires may { MayServe D.Link.Out.allowed }
@@ -118,8 +122,8 @@ pub fn serve_slots<
             rt,
             slots,
             count,
-            &|_index: usize, slot: &mut Slot<L, T, D, C, S>|
-                requires { IsSync R.row × IsSync L.row × IsSync T.row × IsSend L.row × IsSend T.row × IsSend D.row × IsSend C.row × IsSend S.row
+            &|_index: usize, slot: &mut Slot<L, T, D, C, S, G>|
+                requires { IsSync R.row × IsSync L.row × IsSync T.row × IsSend L.row × IsSend T.row × IsSend D.row × IsSend C.row × IsSend S.row × IsSend G.row
                     × IsSend D.Link.row × IsSend D.Link.In.row × IsSend D.Link.Out.row
                     × MayServe D.Link.Out.allowed
                     × NoneEnded slot.now.lines.items }

@@ -2,7 +2,7 @@
 ghost use Rattle.std.specs.Prelude.{◌≡◌};
 ghost use Rattle.service_slots.specs.Stops.{stop_after};
 
-use connection_serve::End;
+use connection_serve::{End, LiveEnd};
 use history_lock::EndCause;
 
 /// Why a slot stopped.
@@ -22,11 +22,11 @@ pub enum SlotStop {
 
 impl SlotStop {
     /// A connection that the lock ended stops its slot, and no other does.
-    pub(crate) fn of_end(end: End) -> Option<SlotStop>
+    pub(crate) fn of_end(end: LiveEnd) -> Option<SlotStop>
         ensures { result ≡ stop_after end }
     {
         match end {
-            End::Ended { cause } => Some(SlotStop::Ended { cause }),
+            LiveEnd::Plain(End::Ended { cause }) => Some(SlotStop::Ended { cause }),
             _ => None,
         }
     }

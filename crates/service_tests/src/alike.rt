@@ -35,6 +35,7 @@ const SCENE: Scene = Scene {
             room: ROOM,
         }],
     ],
+    sights: &[],
     fault: Fault::None,
 };
 

@@ -24,6 +24,7 @@ const RELOADS: Scene = Scene {
         gives: &[SHAKE_ROOT, RELOAD],
         room: ROOM,
     }]],
+    sights: &[],
     fault: Fault::None,
 };
 
@@ -51,6 +52,7 @@ const CHECKS: Scene = Scene {
             room: ROOM,
         }],
     ],
+    sights: &[],
     fault: Fault::None,
 };
 

@@ -5,7 +5,7 @@ ghost use Rattle.connection_serve.specs.Promises.{MayServe};
 use crate::written::joined;
 use authority_service::{ServiceEnd, serve};
 use memory_outside::{ByteLink, ByteSink, ByteSource, DoorPlan, ListStation, StationPlan};
-use pk_outside::{Sink, Station};
+use pk_outside::{Sighted, Sink, Station};
 use pk_types::{List, NoMemory, Text};
 use serve_words::read_plan;
 use std::alloc::Global;
@@ -77,11 +77,12 @@ impl Fault {
     }
 }
 
-/// What a service is given: its words, the links of its doors, and the call that fails.
+/// What a service is given: its words, the links of its doors, what the looks of its slots see, and the call that fails.
 #[derive(Clone, Copy)]
 pub struct Scene {
     pub words: &'static [&'static str],
     pub doors: &'static [&'static [LinkRow]],
+    pub sights: &'static [&'static [Sighted]],
     pub fault: Fault,
 }
 
@@ -116,6 +117,15 @@ fn door(alloc: Global, rows: &[LinkRow], calls: Calls) -> Result<DoorPlan, NoMem
     Ok(plan)
 }
 
+/// What the looks of each slot see.
+fn sights(alloc: Global, rows: &[&'static [Sighted]]) -> Result<List<List<Sighted>>, NoMemory> {
+    let mut lists = List::new(alloc);
+    for row in rows {
+        lists.try_push(List::from_vec(row.to_vec(alloc)?))?;
+    }
+    Ok(lists)
+}
+
 /// The station of a scene.
 fn station(alloc: Global, scene: &Scene) -> Result<ListStation, NoMemory> {
     let mut calls = scene.fault.calls();
@@ -127,6 +137,7 @@ fn station(alloc: Global, scene: &Scene) -> Result<ListStation, NoMemory> {
     }
     let mut plan = StationPlan::empty(alloc);
     plan.doors = doors;
+    plan.sights = sights(alloc, scene.sights)?;
     plan.failing_doors = failing_doors;
     Ok(ListStation::new(alloc, plan))
 }

@@ -1,7 +1,8 @@
 // Services over memory, with what comes of them.
 use crate::memory::{Fault, LinkRow, ROOM, Scene, Served, play};
-use crate::wire::{CHANGED, DONE, OK, YES_ANY};
+use crate::wire::{CHANGED, CHANGED_FIRST, DONE, OK, UNKNOWN, YES_ANY};
 use crate::written::{is_made, is_told};
+use pk_outside::Sighted;
 use pk_types::NoMemory;
 use std::alloc::Global;
 use std::sync::Wait;
@@ -32,13 +33,19 @@ const CHECKS: LinkRow = LinkRow {
     room: ROOM,
 };
 
-/// The same without room for what is sent.
+/// The same check twice.
+const CHECKS_TWICE: LinkRow = LinkRow {
+    gives: &[SHAKE_ALICE, CHECK_YES, CHECK_YES],
+    room: ROOM,
+};
+
+/// A check without room for what is sent.
 const ROOMLESS: LinkRow = LinkRow {
     gives: &[SHAKE_ALICE, CHECK_YES],
     room: 0,
 };
 
-/// The same with room for the answer to the handshake.
+/// A check with room for the answer to the handshake.
 const SHAKES: LinkRow = LinkRow {
     gives: &[SHAKE_ALICE, CHECK_YES],
     room: 37,
@@ -85,22 +92,26 @@ const TWO_DOORS: &[&str] = &[
     "1",
 ];
 
+/// What comes of a check.
+const ANSWERED: Outcome = Outcome {
+    end: "Done",
+    lines: &[
+        ("connection 3 1000 done 1 1", ""),
+        ("entries ", " loads 1 refused 0"),
+    ],
+    sent: &[&[OK, YES_ANY]],
+};
+
 /// A service with one check.
 const CHECKED: Row = Row {
     shows: "a check is answered",
     scene: Scene {
         words: ONE_DOOR,
         doors: &[&[CHECKS]],
+        sights: &[],
         fault: Fault::None,
     },
-    outcomes: &[Outcome {
-        end: "Done",
-        lines: &[
-            ("connection 3 1000 done 1 1", ""),
-            ("entries ", " loads 1 refused 0"),
-        ],
-        sent: &[&[OK, YES_ANY]],
-    }],
+    outcomes: &[ANSWERED],
 };
 
 /// Services whose connections are served, if they come.
@@ -111,6 +122,7 @@ const SERVED: &[Row] = &[
         scene: Scene {
             words: &["--root", "/r", "--door", "1000:/one", "--slots", "1"],
             doors: &[&[CHECKS, CHECKS]],
+            sights: &[],
             fault: Fault::None,
         },
         outcomes: &[Outcome {
@@ -128,6 +140,7 @@ const SERVED: &[Row] = &[
         scene: Scene {
             words: ROOT_DOOR,
             doors: &[&[RELOADS]],
+            sights: &[],
             fault: Fault::None,
         },
         outcomes: &[
@@ -154,6 +167,7 @@ const SERVED: &[Row] = &[
         scene: Scene {
             words: ONE_DOOR,
             doors: &[&[]],
+            sights: &[],
             fault: Fault::None,
         },
         outcomes: &[Outcome {
@@ -164,6 +178,166 @@ const SERVED: &[Row] = &[
     },
 ];
 
+/// A service of one connection that looks at the process of its check.
+const LIVE_DOOR: &[&str] = &[
+    "--root",
+    "/r",
+    "--door",
+    "1000:/one",
+    "--slots",
+    "1",
+    "--stop-after",
+    "1",
+    "--live",
+];
+
+/// The process of the checks, as it is listed.
+const ALIVE: Sighted = Sighted::Alive { start: 8 };
+
+/// What comes of a check whose process has ended.
+const ENDED: Outcome = Outcome {
+    end: "Done",
+    lines: &[
+        ("connection 3 1000 done 1 2", ""),
+        ("entries ", " loads 2 refused 0"),
+    ],
+    sent: &[&[OK, CHANGED_FIRST, UNKNOWN]],
+};
+
+/// Services whose connections look at the processes of their checks.
+const LIVE: &[Row] = &[
+    Row {
+        shows: "the process is alive",
+        scene: Scene {
+            words: LIVE_DOOR,
+            doors: &[&[CHECKS]],
+            sights: &[&[ALIVE]],
+            fault: Fault::None,
+        },
+        outcomes: &[ANSWERED],
+    },
+    Row {
+        shows: "the process has gone",
+        scene: Scene {
+            words: LIVE_DOOR,
+            doors: &[&[CHECKS]],
+            sights: &[&[Sighted::Gone]],
+            fault: Fault::None,
+        },
+        outcomes: &[ENDED],
+    },
+    Row {
+        shows: "its number is that of another process",
+        scene: Scene {
+            words: LIVE_DOOR,
+            doors: &[&[CHECKS]],
+            sights: &[&[Sighted::Alive { start: 9 }]],
+            fault: Fault::None,
+        },
+        outcomes: &[ENDED],
+    },
+    Row {
+        shows: "the look fails",
+        scene: Scene {
+            words: LIVE_DOOR,
+            doors: &[&[CHECKS]],
+            sights: &[&[Sighted::Failed]],
+            fault: Fault::None,
+        },
+        outcomes: &[Outcome {
+            end: "Done",
+            lines: &[
+                ("connection 3 1000 sight-fault 0 0", ""),
+                ("entries ", " loads 1 refused 0"),
+            ],
+            sent: &[&[OK]],
+        }],
+    },
+    Row {
+        shows: "the second look fails",
+        scene: Scene {
+            words: LIVE_DOOR,
+            doors: &[&[CHECKS_TWICE]],
+            sights: &[&[ALIVE, Sighted::Failed]],
+            fault: Fault::None,
+        },
+        outcomes: &[Outcome {
+            end: "Done",
+            lines: &[
+                ("connection 3 1000 sight-fault 1 1", ""),
+                ("entries ", " loads 1 refused 0"),
+            ],
+            sent: &[&[OK, YES_ANY]],
+        }],
+    },
+    Row {
+        shows: "the next connection of a slot has the next look, and three passes lie between them",
+        scene: Scene {
+            words: &[
+                "--root",
+                "/r",
+                "--door",
+                "1000:/one",
+                "--slots",
+                "1",
+                "--live",
+            ],
+            doors: &[&[CHECKS, CHECKS]],
+            sights: &[&[ALIVE, Sighted::Gone]],
+            fault: Fault::None,
+        },
+        outcomes: &[Outcome {
+            end: "Done",
+            lines: &[
+                ("connection 3 1000 done 1 1", ""),
+                ("connection 6 1000 done 1 2", ""),
+                ("entries ", " loads 2 refused 0"),
+            ],
+            sent: &[&[OK, YES_ANY]],
+        }],
+    },
+    Row {
+        shows: "each slot has looks of its own, and a look that fails ends its connection alone",
+        scene: Scene {
+            words: &[
+                "--root",
+                "/r",
+                "--door",
+                "1000:/one",
+                "--door",
+                "1000:/two",
+                "--slots",
+                "1",
+                "--stop-after",
+                "1",
+                "--live",
+            ],
+            doors: &[&[CHECKS], &[CHECKS]],
+            sights: &[&[Sighted::Failed], &[ALIVE]],
+            fault: Fault::None,
+        },
+        outcomes: &[Outcome {
+            end: "Done",
+            lines: &[
+                ("connection ", " 1000 sight-fault 0 0"),
+                ("connection ", " 1000 done 1 1"),
+                ("entries ", " loads 1 refused 0"),
+            ],
+            sent: &[&[OK], &[OK, YES_ANY]],
+        }],
+    },
+    Row {
+        shows: "nothing is looked at without the word",
+        scene: Scene {
+            words: ONE_DOOR,
+            doors: &[&[CHECKS]],
+            sights: &[&[Sighted::Gone]],
+            fault: Fault::None,
+        },
+        outcomes: &[ANSWERED],
+    },
+];
+
 /// Services with something that fails.
 const FAILING: &[Row] = &[
     Row {
@@ -171,6 +345,7 @@ const FAILING: &[Row] = &[
         scene: Scene {
             words: ONE_DOOR,
             doors: &[&[CHECKS]],
+            sights: &[],
             fault: Fault::Read(1),
         },
         outcomes: &[Outcome {
@@ -198,6 +373,7 @@ const FAILING: &[Row] = &[
                 "1",
             ],
             doors: &[&[CHECKS]],
+            sights: &[],
             fault: Fault::None,
         },
         outcomes: &[Outcome {
@@ -214,6 +390,7 @@ const FAILING: &[Row] = &[
         scene: Scene {
             words: TWO_DOORS,
             doors: &[&[CHECKS], &[CHECKS]],
+            sights: &[],
             fault: Fault::Accept(1),
         },
         outcomes: &[Outcome {
@@ -230,6 +407,7 @@ const FAILING: &[Row] = &[
         scene: Scene {
             words: TWO_DOORS,
             doors: &[&[ROOMLESS], &[CHECKS]],
+            sights: &[],
             fault: Fault::None,
         },
         outcomes: &[Outcome {
@@ -247,6 +425,7 @@ const FAILING: &[Row] = &[
         scene: Scene {
             words: TWO_DOORS,
             doors: &[&[SHAKES], &[CHECKS]],
+            sights: &[],
             fault: Fault::None,
         },
         outcomes: &[Outcome {
@@ -264,6 +443,7 @@ const FAILING: &[Row] = &[
         scene: Scene {
             words: TWO_DOORS,
             doors: &[&[CHECKS], &[CHECKS]],
+            sights: &[],
             fault: Fault::Door(2),
         },
         outcomes: &[Outcome {
@@ -277,6 +457,7 @@ const FAILING: &[Row] = &[
         scene: Scene {
             words: ONE_DOOR,
             doors: &[&[CHECKS]],
+            sights: &[],
             fault: Fault::Output(1),
         },
         outcomes: &[Outcome {
@@ -290,6 +471,7 @@ const FAILING: &[Row] = &[
         scene: Scene {
             words: ONE_DOOR,
             doors: &[&[CHECKS]],
+            sights: &[],
             fault: Fault::Tree(1),
         },
         outcomes: &[Outcome {
@@ -351,6 +533,15 @@ fn difference<R: Threads + Wait + Sync>(
 #[test]
 fn connections_are_served(rt: HostRuntime) -> Result<(), Fail> {
     for row in SERVED {
+        let found = difference(&rt, rt.alloc(), row)?;
+        assert_eq!(rt; found.as_str(), "", "{}", row.shows);
+    }
+    Ok(())
+}
+
+#[test]
+fn live_connections_look_at_their_processes(rt: HostRuntime) -> Result<(), Fail> {
+    for row in LIVE {
         let found = difference(&rt, rt.alloc(), row)?;
         assert_eq!(rt; found.as_str(), "", "{}", row.shows);
     }

@@ -35,6 +35,14 @@ pub const YES_ANY: &[u8] =
 pub const CHANGED: &[u8] =
     b"l\x04\x01\x01\0\0\0\0\x02\0\0\0p\0\0\0\x01\x01o\0%\0\0\0/org/freedesktop/PolicyKit1/Authority\0\0\0\x02\x01s\0$\0\0\0org.freedesktop.PolicyKit1.Authority\0\0\0\0\x03\x01s\0\x07\0\0\0Changed\0";
 
+/// The same with the serial 1.
+pub const CHANGED_FIRST: &[u8] =
+    b"l\x04\x01\x01\0\0\0\0\x01\0\0\0p\0\0\0\x01\x01o\0%\0\0\0/org/freedesktop/PolicyKit1/Authority\0\0\0\x02\x01s\0$\0\0\0org.freedesktop.PolicyKit1.Authority\0\0\0\0\x03\x01s\0\x07\0\0\0Changed\0";
+
+/// The error that the subject is not known, with the serial 2, to the serial 1.
+pub const UNKNOWN: &[u8] =
+    b"l\x03\x01\x01\x1d\0\0\0\x02\0\0\0?\0\0\0\x04\x01s\0'\0\0\0org.freedesktop.PolicyKit1.Error.Failed\0\x05\x01u\0\x01\0\0\0\x08\x01g\0\x01s\0\0\x18\0\0\0The subject is not known\0";
+
 /// What a user may ask, one after another: RegisterAuthenticationAgent, two checks, EnumerateActions, a
 /// method that there is not, AuthenticationAgentResponse, and EnumerateTemporaryAuthorizations.
 pub const TALK_OF_ALICE: &[u8] =

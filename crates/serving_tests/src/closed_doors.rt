@@ -51,7 +51,7 @@ fn stop_two_slots<
     Some((closed, close(shared, control).entries))
 }
 
-/// Serves two slots of one path, and answers how many of them stopped since their doors are closed.
+/// Serves two slots of one path, of which the second looks at processes, and answers how many of them stopped since their doors are closed.
 fn serve_two<L: LimitsName + Send + Sync, T: TableName + Send + Sync, R: Threads + Wait + Sync>(
     rt: &R,
     alloc: Global,
@@ -69,6 +69,7 @@ fn serve_two<L: LimitsName + Send + Sync, T: TableName + Send + Sync, R: Threads
         &mut station,
         &path,
         0,
+        false,
         &mut slots,
     )?;
     push_slot(
@@ -79,6 +80,7 @@ fn serve_two<L: LimitsName + Send + Sync, T: TableName + Send + Sync, R: Threads
         &mut station,
         &path,
         1,
+        true,
         &mut slots,
     )?;
     serve_slots(rt, alloc, shared, None, slots.as_mut_slice());
@@ -94,13 +96,14 @@ fn push_slot<L: LimitsName, T: TableName, N: Station, R: Wait>(
     station: &mut N,
     path: &Text,
     number: u32,
-    slots: &mut Vec<Slot<L, T, N::Door, N::Clock, N::Salt>>,
+    live: bool,
+    slots: &mut Vec<Slot<L, T, N::Door, N::Clock, N::Salt, N::Sights>>,
 ) -> Option<()>
     requires none { All (λ s. NoneEnded s.lines.items) slots.old.items }
     ensures none { All (λ s. NoneEnded s.lines.items) slots.new.items }
 {
     let pass = new_pass(rt, shared, control)?;
-    let slot = open_slot(alloc, station, 1000, path, number, pass).ok()?;
+    let slot = open_slot(alloc, station, 1000, path, number, live, pass).ok()?;
     slots.push(slot).ok()
 }
 
@@ -109,7 +112,7 @@ fn count_closed<L: LimitsName, T: TableName, N: Station>(
     shared: &Shared<L, T>,
     control: &mut Pass<Kept<L>, T>,
     station: &mut N,
-    slots: Vec<Slot<L, T, N::Door, N::Clock, N::Salt>>,
+    slots: Vec<Slot<L, T, N::Door, N::Clock, N::Salt, N::Sights>>,
 ) -> usize {
     let mut closed = 0usize;
     for slot in slots {

@@ -137,8 +137,9 @@ fn serve_idle<
 ) -> Option<SlotStop> {
     let mut station = EmptyStation::new();
     let (clock, salt) = (station.clock(), station.salt());
+    let sights = Some(station.sights());
     let mut slots = Vec::new(alloc);
-    let slot = Slot::new(alloc, pass, IdleDoor { rt, idle }, clock, salt);
+    let slot = Slot::new(alloc, pass, IdleDoor { rt, idle }, clock, salt, sights);
     slots.push(slot).ok()?;
     serve_slots(rt, alloc, shared, None, slots.as_mut_slice());
     let Slot {
@@ -146,6 +147,7 @@ fn serve_idle<
         door: _,
         clock: _,
         salt: _,
+        sights: _,
         lines: _,
         stop,
     } = slots.pop()?;

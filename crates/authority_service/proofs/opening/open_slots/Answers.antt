@@ -30,10 +30,10 @@ loop-index-preserved g c =
       length = search (rules, arith);
       passes = search (rules, arith);
       room = search (rules, arith);
-      doors = opens_more c.args.paths.now each index (g.N.Station.told c.args.station.now) (g.N.Station.told c.loop-index.station) (g.N.Station.told c.open_slot.new.station) (λ s. made_of (g.N.Door.Door.told s.door)) slots now slot place before.doors pushed here door;
+      doors = opens_more c.args.paths.now each index c.args.live (g.N.Station.told c.args.station.now) (g.N.Station.told c.loop-index.station) (g.N.Station.told c.open_slot.new.station) (λ s. made_of (g.N.Door.Door.told s.door)) slots now slot place before.doors pushed here door;
       slots = λ station H told.
           let (old, old_is, made, left) = door.where_told station told in
-          all_more slots now slot (λ (s : Slot g.row.L.Denot g.row.T.Denot g.row.N-Door.Denot g.row.N-Clock.Denot g.row.N-Salt.Denot g.row.N-Door-Link.Denot g.row.N-Door-Link-In.Denot g.row.N-Door-Link-Out.Denot g.L.LimitsName). SlotOf H (g.N.Door.Door.owner s.door) (g.N.Door.Door.told s.door) (g.N.Clock.Clock.gave s.clock) (g.N.Salt.Salt.gave s.salt) s.lines.items) pushed (before.slots old H old_is) (opened.slot station H told);
-      new = all_more slots now slot (λ (s : Slot g.row.L.Denot g.row.T.Denot g.row.N-Door.Denot g.row.N-Clock.Denot g.row.N-Salt.Denot g.row.N-Door-Link.Denot g.row.N-Door-Link-In.Denot g.row.N-Door-Link-Out.Denot g.L.LimitsName). (s.lines.items ≡ []) × (s.stop ≡ None)) pushed before.new (opened.new.1, opened.new.2);
+          all_more slots now slot (λ (s : Slot g.row.L.Denot g.row.T.Denot g.row.N-Door.Denot g.row.N-Clock.Denot g.row.N-Salt.Denot g.row.N-Sights.Denot g.row.N-Door-Link.Denot g.row.N-Door-Link-In.Denot g.row.N-Door-Link-Out.Denot g.L.LimitsName). SlotOf H (g.N.Door.Door.owner s.door) (g.N.Door.Door.told s.door) (g.N.Clock.Clock.gave s.clock) (g.N.Salt.Salt.gave s.salt) s.lines.items) pushed (before.slots old H old_is) (opened.slot station H told);
+      new = all_more slots now slot (λ (s : Slot g.row.L.Denot g.row.T.Denot g.row.N-Door.Denot g.row.N-Clock.Denot g.row.N-Salt.Denot g.row.N-Sights.Denot g.row.N-Door-Link.Denot g.row.N-Door-Link-In.Denot g.row.N-Door-Link-Out.Denot g.L.LimitsName). (s.lines.items ≡ []) × (s.stop ≡ None)) pushed before.new (opened.new.1, opened.new.2);
       later = (let first = before.later in let next = opened.cause.later in omega (arith, first, next));
     }

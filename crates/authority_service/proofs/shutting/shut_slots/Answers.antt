@@ -61,7 +61,7 @@ loop-slot-preserved g c =
       stopped = moved_to (λ s. s.stop) (λ s. s.stop) all left others slot done c.push_reserved.new.self.items one.result before.stopped step pushed one.ensures.same.1;
       slots = λ was begun.
           let (these, so) = before.slots was begun in
-          let P = λ (s : Slot g.row.L.Denot g.row.T.Denot g.row.N-Door.Denot g.row.N-Clock.Denot g.row.N-Salt.Denot g.row.N-Door-Link.Denot g.row.N-Door-Link-In.Denot g.row.N-Door-Link-Out.Denot g.L.LimitsName). SlotOf s.pass.history (g.N.Door.Door.owner s.door) (g.N.Door.Door.told s.door) (g.N.Clock.Clock.gave s.clock) (g.N.Salt.Salt.gave s.salt) s.lines.items in
+          let P = λ (s : Slot g.row.L.Denot g.row.T.Denot g.row.N-Door.Denot g.row.N-Clock.Denot g.row.N-Salt.Denot g.row.N-Sights.Denot g.row.N-Door-Link.Denot g.row.N-Door-Link-In.Denot g.row.N-Door-Link-Out.Denot g.L.LimitsName). SlotOf s.pass.history (g.N.Door.Door.owner s.door) (g.N.Door.Door.told s.door) (g.N.Clock.Clock.gave s.clock) (g.N.Salt.Salt.gave s.salt) s.lines.items in
           let (next, rest) = next_of slot others left P step these in
           let lines = flat_map (λ (s : ShutSlot). s.lines.items) done in (
             rest,
@@ -69,15 +69,15 @@ loop-slot-preserved g c =
           );
       stops = λ most was.
           let (these, so) = before.stops most was in
-          let P = λ (s : Slot g.row.L.Denot g.row.T.Denot g.row.N-Door.Denot g.row.N-Clock.Denot g.row.N-Salt.Denot g.row.N-Door-Link.Denot g.row.N-Door-Link-In.Denot g.row.N-Door-Link-Out.Denot g.L.LimitsName). IsStopped limits most s.pass (g.N.Door.Door.told s.door) (g.N.Door.Door.faults s.door) s.lines.items s.stop in
+          let P = λ (s : Slot g.row.L.Denot g.row.T.Denot g.row.N-Door.Denot g.row.N-Clock.Denot g.row.N-Salt.Denot g.row.N-Sights.Denot g.row.N-Door-Link.Denot g.row.N-Door-Link-In.Denot g.row.N-Door-Link-Out.Denot g.L.LimitsName). IsStopped limits most s.pass (g.N.Door.Door.told s.door) (g.N.Door.Door.faults s.door) s.lines.items s.stop in
           let (next, rest) = next_of slot others left P step these in (
             rest,
             stops_next limits most c.loop-slot.control one.new.control start until now done c.push_reserved.new.self.items one.result pushed knows one.ensures.top before.later one.ensures.later so (one.ensures.stop most next),
           );
       done = λ most was stopped.
           let (these, so) = before.done most was stopped in
-          let P = λ (s : Slot g.row.L.Denot g.row.T.Denot g.row.N-Door.Denot g.row.N-Clock.Denot g.row.N-Salt.Denot g.row.N-Door-Link.Denot g.row.N-Door-Link-In.Denot g.row.N-Door-Link-Out.Denot g.L.LimitsName). SlotOf s.pass.history (g.N.Door.Door.owner s.door) (g.N.Door.Door.told s.door) (g.N.Clock.Clock.gave s.clock) (g.N.Salt.Salt.gave s.salt) s.lines.items in
-          let Q = λ (s : Slot g.row.L.Denot g.row.T.Denot g.row.N-Door.Denot g.row.N-Clock.Denot g.row.N-Salt.Denot g.row.N-Door-Link.Denot g.row.N-Door-Link-In.Denot g.row.N-Door-Link-Out.Denot g.L.LimitsName). IsStopped g.L.LimitsName.limits most s.pass (g.N.Door.Door.told s.door) (g.N.Door.Door.faults s.door) s.lines.items s.stop in
+          let P = λ (s : Slot g.row.L.Denot g.row.T.Denot g.row.N-Door.Denot g.row.N-Clock.Denot g.row.N-Salt.Denot g.row.N-Sights.Denot g.row.N-Door-Link.Denot g.row.N-Door-Link-In.Denot g.row.N-Door-Link-Out.Denot g.L.LimitsName). SlotOf s.pass.history (g.N.Door.Door.owner s.door) (g.N.Door.Door.told s.door) (g.N.Clock.Clock.gave s.clock) (g.N.Salt.Salt.gave s.salt) s.lines.items in
+          let Q = λ (s : Slot g.row.L.Denot g.row.T.Denot g.row.N-Door.Denot g.row.N-Clock.Denot g.row.N-Salt.Denot g.row.N-Sights.Denot g.row.N-Door-Link.Denot g.row.N-Door-Link-In.Denot g.row.N-Door-Link-Out.Denot g.L.LimitsName). IsStopped g.L.LimitsName.limits most s.pass (g.N.Door.Door.told s.door) (g.N.Door.Door.faults s.door) s.lines.items s.stop in
           let (next, rest) = next_of slot others left P step these in
           let (next_stopped, others_stopped) = next_of slot others left Q step (before.stops most stopped).0 in (
             rest,
@@ -88,7 +88,7 @@ loop-slot-preserved g c =
 pub returns-clause-slots : goal.returns-clause-slots
 returns-clause-slots g c was begun =
     let all : c.into_iter-slot-iterator.result.rest.items ≡ c.args.slots.items = search rules in
-    let P = λ (s : Slot g.row.L.Denot g.row.T.Denot g.row.N-Door.Denot g.row.N-Clock.Denot g.row.N-Salt.Denot g.row.N-Door-Link.Denot g.row.N-Door-Link-In.Denot g.row.N-Door-Link-Out.Denot g.L.LimitsName). SlotOf s.pass.history (g.N.Door.Door.owner s.door) (g.N.Door.Door.told s.door) (g.N.Clock.Clock.gave s.clock) (g.N.Salt.Salt.gave s.salt) s.lines.items in
+    let P = λ (s : Slot g.row.L.Denot g.row.T.Denot g.row.N-Door.Denot g.row.N-Clock.Denot g.row.N-Salt.Denot g.row.N-Sights.Denot g.row.N-Door-Link.Denot g.row.N-Door-Link-In.Denot g.row.N-Door-Link-Out.Denot g.L.LimitsName). SlotOf s.pass.history (g.N.Door.Door.owner s.door) (g.N.Door.Door.told s.door) (g.N.Clock.Clock.gave s.clock) (g.N.Salt.Salt.gave s.salt) s.lines.items in
     let (rest, so) = c.loop-slot.invariant.slots (All-same P _ _ all was) begun in
     so
 
@@ -102,14 +102,14 @@ returns-clause-doors g c =
 pub returns-clause-stops : goal.returns-clause-stops
 returns-clause-stops g c most was =
     let all : c.into_iter-slot-iterator.result.rest.items ≡ c.args.slots.items = search rules in
-    let P = λ (s : Slot g.row.L.Denot g.row.T.Denot g.row.N-Door.Denot g.row.N-Clock.Denot g.row.N-Salt.Denot g.row.N-Door-Link.Denot g.row.N-Door-Link-In.Denot g.row.N-Door-Link-Out.Denot g.L.LimitsName). IsStopped g.L.LimitsName.limits most s.pass (g.N.Door.Door.told s.door) (g.N.Door.Door.faults s.door) s.lines.items s.stop in
+    let P = λ (s : Slot g.row.L.Denot g.row.T.Denot g.row.N-Door.Denot g.row.N-Clock.Denot g.row.N-Salt.Denot g.row.N-Sights.Denot g.row.N-Door-Link.Denot g.row.N-Door-Link-In.Denot g.row.N-Door-Link-Out.Denot g.L.LimitsName). IsStopped g.L.LimitsName.limits most s.pass (g.N.Door.Door.told s.door) (g.N.Door.Door.faults s.door) s.lines.items s.stop in
     let (rest, so) = c.loop-slot.invariant.stops most (All-same P _ _ all was) in
     so
 
 pub returns-clause-done : goal.returns-clause-done
 returns-clause-done g c most was stopped =
     let all : c.into_iter-slot-iterator.result.rest.items ≡ c.args.slots.items = search rules in
-    let P = λ (s : Slot g.row.L.Denot g.row.T.Denot g.row.N-Door.Denot g.row.N-Clock.Denot g.row.N-Salt.Denot g.row.N-Door-Link.Denot g.row.N-Door-Link-In.Denot g.row.N-Door-Link-Out.Denot g.L.LimitsName). SlotOf s.pass.history (g.N.Door.Door.owner s.door) (g.N.Door.Door.told s.door) (g.N.Clock.Clock.gave s.clock) (g.N.Salt.Salt.gave s.salt) s.lines.items in
-    let Q = λ (s : Slot g.row.L.Denot g.row.T.Denot g.row.N-Door.Denot g.row.N-Clock.Denot g.row.N-Salt.Denot g.row.N-Door-Link.Denot g.row.N-Door-Link-In.Denot g.row.N-Door-Link-Out.Denot g.L.LimitsName). IsStopped g.L.LimitsName.limits most s.pass (g.N.Door.Door.told s.door) (g.N.Door.Door.faults s.door) s.lines.items s.stop in
+    let P = λ (s : Slot g.row.L.Denot g.row.T.Denot g.row.N-Door.Denot g.row.N-Clock.Denot g.row.N-Salt.Denot g.row.N-Sights.Denot g.row.N-Door-Link.Denot g.row.N-Door-Link-In.Denot g.row.N-Door-Link-Out.Denot g.L.LimitsName). SlotOf s.pass.history (g.N.Door.Door.owner s.door) (g.N.Door.Door.told s.door) (g.N.Clock.Clock.gave s.clock) (g.N.Salt.Salt.gave s.salt) s.lines.items in
+    let Q = λ (s : Slot g.row.L.Denot g.row.T.Denot g.row.N-Door.Denot g.row.N-Clock.Denot g.row.N-Salt.Denot g.row.N-Sights.Denot g.row.N-Door-Link.Denot g.row.N-Door-Link-In.Denot g.row.N-Door-Link-Out.Denot g.L.LimitsName). IsStopped g.L.LimitsName.limits most s.pass (g.N.Door.Door.told s.door) (g.N.Door.Door.faults s.door) s.lines.items s.stop in
     let (rest, so) = c.loop-slot.invariant.done most (All-same P _ _ all was) (All-same Q _ _ all stopped) in
     so

@@ -7,7 +7,7 @@ returns-in-Ok g c = record { served = c.serve_loaded.ensures.served (g.F.Tree.to
 
 pub returns-in-Err : goal.returns-in-Err
 returns-in-Err g c = record {
-  served = rw c.end_of_refused.ensures (refused_serves c.args.plan.now _ c.in-Err.refused c.in-Err.ensures.load c.in-Err.ensures.fault (record { station = refl; station_faults = refl; held = refl }));
+  served = rw c.end_of_refused.ensures (refused_serves c.args.plan.now _ c.in-Err.refused c.in-Err.ensures.load c.in-Err.ensures.fault (record { station = refl; station_faults = refl; held = refl; write_faults = refl }));
 }
 
 pub serve_loaded-requires-clause-may : goal.serve_loaded-requires-clause-may

@@ -1,5 +1,4 @@
 use Rattle.std.proofs.Common.{◌≡◌, ◌∙◌, List, ℕ, Option, inl, inr, refl, sym, ap, subst, arith}
-use Rattle.pk_outside.specs.Causes.{Rose}
 use Rattle.pk_outside.specs.Streams.{Got, GotFront}
 use Rattle.pk_outside.specs.Trees.{TreeTold}
 use Rattle.authority_service.specs.Lines.{opening_text}
@@ -14,16 +13,15 @@ pub returns-in-Err : goal.returns-in-Err
 returns-in-Err g c = record {
   served = (λ told from same is_first.
       let failed = c.in-Err.ensures.cause.failed in
-      let bytes : c.as_slice.result.now ≡ opening_text c.args.plan.now.audit c.args.first = c.as_slice.ensures.items ∙ c.in-Ok.ensures.text in
-      let rose : Rose (g.O.Sink.faults c.args.output.now) (g.O.Sink.faults c.write_all.new.output) = omega (arith, failed) in (
-        rose,
+      let bytes : c.as_slice.result.now ≡ opening_text c.args.plan.now.audit c.args.first = c.as_slice.ensures.items ∙ c.in-Ok.ensures.text in (
+        failed,
         inl (record {
           first = c.args.first;
           is_first = is_first;
           doors = 0;
           back = doors_none c.args.plan.now (g.N.Station.told c.args.station.now);
           unserved = (λ none. none);
-          written = inr (subst (λ (b : List ℕ). GotFront (g.O.Sink.held c.args.output.now) (g.O.Sink.held c.write_all.new.output) b) bytes c.in-Err.ensures.err, rose);
+          written = inr (subst (λ (b : List ℕ). GotFront (g.O.Sink.held c.args.output.now) (g.O.Sink.held c.write_all.new.output) b) bytes c.in-Err.ensures.err, failed);
         }),
       ));
 }
@@ -35,9 +33,9 @@ returns-in-Ok-run_named g c = record {
       let got = subst (λ (b : List ℕ). Got (g.O.Sink.held c.args.output.now) (g.O.Sink.held c.write_all.new.output) b) bytes c.in-Ok-write_all.ensures.ok in
       let run = subst (λ (t : Option TreeTold). HasRun c.args.plan.now c.args.first (record { tree = t; station_before = g.N.Station.told c.args.station.now; station = g.N.Station.told c.run_named.new.station; station_faults_before = g.N.Station.faults c.args.station.now; station_faults = g.N.Station.faults c.run_named.new.station })
       c.in-Ok-run_named.ran.authority.history c.in-Ok-run_named.ran.slots.items c.in-Ok-run_named.ran.cause) (sym same) c.in-Ok-run_named.ensures.ran in
-      let later = c.in-Ok-write_all.ensures.cause.later in
+      let quiet = c.in-Ok-write_all.ensures.quiet in
       serves_told c.args.plan.now c.args.first _ c.in-Ok-run_named.ran.authority.history c.in-Ok-run_named.ran.slots.items c.in-Ok-run_named.ran.cause
-      (g.O.Sink.held c.write_all.new.output) (g.O.Sink.faults c.write_all.new.output) c.tell.result run is_first got later c.tell.ensures.told);
+      (g.O.Sink.held c.write_all.new.output) (g.O.Sink.faults c.write_all.new.output) c.tell.result run is_first got quiet c.tell.ensures.told);
 }
 
 pub returns : goal.returns
@@ -45,7 +43,7 @@ returns g c = record {
   served = (λ told from same is_first.
       let bytes : c.as_slice.result.now ≡ opening_text c.args.plan.now.audit c.args.first = c.as_slice.ensures.items ∙ c.in-Ok.ensures.text in
       let got = subst (λ (b : List ℕ). Got (g.O.Sink.held c.args.output.now) (g.O.Sink.held c.write_all.new.output) b) bytes c.in-Ok-write_all.ensures.ok in
-      inr (inl (unbegun_short c.args.plan.now c.args.first _ _ _ refl refl c.in-Err-NoMemory.ensures.short is_first (inl got))));
+      inr (inl (unbegun_short c.args.plan.now c.args.first _ _ _ refl refl c.in-Err-NoMemory.ensures.short is_first (inl (got, c.in-Ok-write_all.ensures.quiet)))));
 }
 
 pub returns-in-Err-DoorFault : goal.returns-in-Err-DoorFault
@@ -55,7 +53,7 @@ returns-in-Err-DoorFault g c = record {
       let got = subst (λ (b : List ℕ). Got (g.O.Sink.held c.args.output.now) (g.O.Sink.held c.write_all.new.output) b) bytes c.in-Ok-write_all.ensures.ok in
       let short = c.in-Err-DoorFault.ensures.short in (
         subst (λ (why : Unbegun). UnbegunCause (g.N.Station.faults c.args.station.now) (g.N.Station.faults c.run_named.new.station) why) c.in-Err-DoorFault.field-0-is short.cause,
-        inl (unbegun_short c.args.plan.now c.args.first _ _ _ refl refl short is_first (inl got)),
+        inl (unbegun_short c.args.plan.now c.args.first _ _ _ refl refl short is_first (inl (got, c.in-Ok-write_all.ensures.quiet))),
       ));
 }
 

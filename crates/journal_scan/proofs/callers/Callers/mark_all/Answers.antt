@@ -1,4 +1,4 @@
-use Rattle.std.proofs.Common.{◌<◌, ◌++◌, ◌∷◌, [], List, refl, take, length, slice_index_or, sym, subst}
+use Rattle.std.proofs.Common.{◌<◌, ◌++◌, ◌∷◌, [], List, None, refl, take, length, slice_index_or, sym, subst}
 use Rattle.std.proofs.lemmas.List.{take_more}
 use Rattle.journal_scan.specs.declared.lines.ConnectionLine.{ConnectionLine}
 use Rattle.journal_scan.specs.Standing.{AreMarked}
@@ -7,7 +7,7 @@ use Rattle.journal_scan.proofs.callers.Callers.mark_all.Goals as goal
 
 pub loop-line-preserved : goal.loop-line-preserved
 loop-line-preserved c =
-    let none : ConnectionLine = record { number = 0; uid = 0 } in
+    let none : ConnectionLine = record { number = 0; uid = 0; sighter = None } in
     let k = c.loop-line.line-index in
     let size = length c.args.self.now.places.items in
     let lines = c.args.lines.now in

@@ -6,8 +6,8 @@ use Rattle.journal_scan.proofs.scan.Scan.enter.Goals as goal
 
 pub returns : goal.returns
 returns c = record {
-  stands = (λ yes size lines past i same old.
-      let placed = c.if-not-enter.ensures.belongs refl size lines past i same old.callers in
+  stands = (λ yes size lines past i same pairs old.
+      let placed = c.if-not-enter.ensures.belongs refl size lines past i same (λ sights. c.is_sighting-sighting.ensures.sighting sights past i same old.loading pairs) old.callers in
       let lined = c.has_line-lined.ensures.line size lines (i ∷ past) placed.0 placed.2 in
       let due = c.if-not-enter-2.ensures.due refl lines past i same old.loading lined in
       let only = c.if-not-enter-3.ensures.only refl size past i same old.tallies old.collects in
