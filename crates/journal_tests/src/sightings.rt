@@ -202,99 +202,122 @@ fn finds_which_processes_a_load_lacks(rt: HostRuntime) -> Result<(), Fail> {
     Ok(())
 }
 
+/// What a second load has beside the processes of a sighting.
+#[derive(Clone, Copy)]
+enum Change {
+    Nothing,
+    Faults,
+    Admins,
+    Users,
+    Groups,
+    Sessions,
+}
+
+/// The load of a sighting with this change.
+fn changed(alloc: Global, change: Change) -> Result<Loaded, NoMemory> {
+    let mut load = load(alloc, &WITHOUT)?;
+    match change {
+        Change::Nothing => {}
+        Change::Faults => load.faults = one(alloc, fault(alloc)?)?,
+        Change::Admins => load.policy.admins = one(alloc, text(alloc, "unix-group:v")?)?,
+        Change::Users => load.world.users = one(alloc, user(alloc, &[100])?)?,
+        Change::Groups => load.world.groups = one(alloc, group(alloc, 11)?)?,
+        Change::Sessions => load.world.sessions = one(alloc, session(alloc, false)?)?,
+    }
+    Ok(load)
+}
+
+const CHANGES: [(&str, Change, bool); 6] = [
+    ("nothing", Change::Nothing, true),
+    ("faults that stay", Change::Faults, false),
+    ("another administrator", Change::Admins, false),
+    ("another group of a user", Change::Users, false),
+    ("another group", Change::Groups, false),
+    ("another session", Change::Sessions, false),
+];
+
 #[test]
 fn finds_what_else_a_load_changes(rt: HostRuntime) -> Result<(), Fail> {
-    let alloc = rt.alloc();
-    let mut second = load(alloc, &WITHOUT)?;
-    second.faults = one(alloc, fault(alloc)?)?;
-    assert!(rt; !is_orderly(alloc, second)?, "faults that stay");
-    let mut second = load(alloc, &WITHOUT)?;
-    second.policy.admins = one(alloc, text(alloc, "unix-group:v")?)?;
-    assert!(rt; !is_orderly(alloc, second)?, "another policy");
-    let mut second = load(alloc, &WITHOUT)?;
-    second.world.users = one(alloc, user(alloc, &[100])?)?;
-    assert!(rt; !is_orderly(alloc, second)?, "another user");
-    let mut second = load(alloc, &WITHOUT)?;
-    second.world.groups = one(alloc, group(alloc, 11)?)?;
-    assert!(rt; !is_orderly(alloc, second)?, "another group");
-    let mut second = load(alloc, &WITHOUT)?;
-    second.world.sessions = one(alloc, session(alloc, false)?)?;
-    assert!(rt; !is_orderly(alloc, second)?, "another session");
+    for (caption, change, orderly) in &CHANGES {
+        let second = changed(rt.alloc(), *change)?;
+        let found = is_orderly(rt.alloc(), second)?;
+        assert_eq!(rt; found, *orderly, "{caption}");
+    }
     Ok(())
 }
 
-/// Whether the journal with a good second load is in order.
+/// Whether the journal with the load of a sighting is in order.
 fn fits(alloc: Global, sighter: Sighter, lines: &[ConnectionLine]) -> Result<bool, NoMemory> {
     let second = load(alloc, &WITHOUT)?;
     Ok(totals(alloc, second, sighter, lines)?.is_some())
 }
 
+/// Who enters the load of a sighting and when, and whether that is in order.
+const WHO: [(&str, u32, u64, bool); 5] = [
+    ("the sighter of the line", 3, 5, true),
+    ("a moment of its own", 3, 6, false),
+    ("a caller that is no sighter", 4, 5, false),
+    ("the connection itself", 1, 5, false),
+    ("the loader, which nothing asked", 0, 5, false),
+];
+
 #[test]
 fn finds_who_enters_a_load(rt: HostRuntime) -> Result<(), Fail> {
-    let alloc = rt.alloc();
-    let later = Sighter {
-        caller: 3,
-        moment: 6,
-    };
-    let other = Sighter {
-        caller: 4,
-        moment: 5,
-    };
-    let own = Sighter {
-        caller: 1,
-        moment: 5,
-    };
-    let loader = Sighter {
-        caller: 0,
-        moment: 5,
-    };
-    assert!(rt; fits(alloc, SIGHTER, &[LINE])?, "the sighter of the line");
-    assert!(rt; !fits(alloc, later, &[LINE])?, "a moment of its own");
-    assert!(rt;
-        !fits(alloc, other, &[LINE])?,
-        "a caller that is no sighter"
-    );
-    assert!(rt; !fits(alloc, own, &[LINE])?, "the connection itself");
-    assert!(rt;
-        !fits(alloc, loader, &[LINE])?,
-        "the loader, which nothing asked"
-    );
+    for (caption, caller, moment, orderly) in &WHO {
+        let sighter = Sighter {
+            caller: *caller,
+            moment: *moment,
+        };
+        let found = fits(rt.alloc(), sighter, &[LINE])?;
+        assert_eq!(rt; found, *orderly, "{caption}");
+    }
     Ok(())
 }
 
+/// The number of a connection, and that of its sighter.
+type Numbers = (u32, Option<u32>);
+
+fn line(numbers: Numbers) -> ConnectionLine {
+    ConnectionLine {
+        number: numbers.0,
+        uid: 1000,
+        sighter: numbers.1,
+    }
+}
+
+/// Two lines, and whether the load of sighter 3 is in order with them.
+const LINES: [(&str, Numbers, Numbers, bool); 7] = [
+    ("two sighters", (1, Some(3)), (2, Some(4)), true),
+    ("no sighter", (1, None), (2, None), false),
+    (
+        "the number of its connection",
+        (1, Some(3)),
+        (2, Some(2)),
+        false,
+    ),
+    ("a sighter of both", (1, Some(3)), (2, Some(3)), false),
+    ("the number of a later line", (1, Some(3)), (3, None), false),
+    (
+        "the number of a line before",
+        (3, None),
+        (1, Some(3)),
+        false,
+    ),
+    (
+        "the number of the loader",
+        (1, Some(3)),
+        (2, Some(0)),
+        false,
+    ),
+];
+
 #[test]
 fn finds_sighters_that_do_not_fit(rt: HostRuntime) -> Result<(), Fail> {
-    let alloc = rt.alloc();
-    let line = |number: u32, sighter: Option<u32>| ConnectionLine {
-        number,
-        uid: 1000,
-        sighter,
-    };
-    assert!(rt;
-        fits(alloc, SIGHTER, &[LINE, line(2, Some(4))])?,
-        "two lines"
-    );
-    assert!(rt; !fits(alloc, SIGHTER, &[line(1, None)])?, "no sighter");
-    assert!(rt;
-        !fits(alloc, SIGHTER, &[line(1, Some(1))])?,
-        "the connection's number"
-    );
-    assert!(rt;
-        !fits(alloc, SIGHTER, &[LINE, line(2, Some(3))])?,
-        "a sighter twice"
-    );
-    assert!(rt;
-        !fits(alloc, SIGHTER, &[LINE, line(3, None)])?,
-        "the number of a later line"
-    );
-    assert!(rt;
-        !fits(alloc, SIGHTER, &[line(3, None), LINE])?,
-        "the number of a line before"
-    );
-    assert!(rt;
-        !fits(alloc, SIGHTER, &[LINE, line(2, Some(0))])?,
-        "the loader's number"
-    );
+    for (caption, first, second, orderly) in &LINES {
+        let lines = [line(*first), line(*second)];
+        let found = fits(rt.alloc(), SIGHTER, &lines)?;
+        assert_eq!(rt; found, *orderly, "{caption}");
+    }
     Ok(())
 }
 
