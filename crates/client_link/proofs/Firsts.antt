@@ -3,9 +3,9 @@ use Rattle.std.proofs.Common.{◌≡◌, ℕ, Bool, true, false, List, [], ◌�
 use Rattle.std.proofs.lemmas.List.{drop_at}
 use Rattle.dbus_values.specs.declared.fault.FaultKind.{FaultKind}
 use Rattle.dbus_values.specs.Next.{Bad, Partial, Seen, Whole, next_of}
-use Rattle.dbus_values.specs.Streams.{IsForm, NoneWhole}
+use Rattle.dbus_values.specs.Streams.{Follow, IsForm, NoneWhole}
 use Rattle.dbus_values.proofs.Streaming.{form_whole, one_form}
-use Rattle.client_link.specs.Following.{Follow, IsFirst, NoneIs, Passes}
+use Rattle.client_link.specs.Following.{IsFirst, NoneIs, Passes}
 use Rattle.client_link.proofs.Follows.{passes_bytes}
 
 tails : (a x y : List ℕ) → a ++ x ≡ a ++ y → x ≡ y

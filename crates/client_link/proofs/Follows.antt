@@ -2,17 +2,8 @@
 use Rattle.std.proofs.Common.{◌≡◌, ℕ, Bool, true, false, List, [], ◌∷◌, ◌++◌, refl, ap, sym, ◌∙◌, append_assoc}
 use Rattle.dbus_values.specs.Next.{Seen}
 use Rattle.dbus_values.specs.Streams.{IsForm}
-use Rattle.client_link.specs.Following.{Follow, NoneIs, Passes}
-
--- more bytes at the end
-pub more_bytes : (bytes : List ℕ) (messages : List Seen) (rest more : List ℕ) → Follow bytes messages rest → Follow (bytes ++ more) messages (rest ++ more)
-more_bytes bytes [] rest more f = ap (λ b. b ++ more) f
-more_bytes bytes (m ∷ messages) rest more f = (f.0, f.1 ++ more, f.2, ap (λ b. b ++ more) f.3 ∙ append_assoc f.0 f.1 more, more_bytes f.1 messages rest more f.4)
-
--- one more message
-pub more_messages : (bytes : List ℕ) (messages : List Seen) (rest text behind : List ℕ) (m : Seen) → Follow bytes messages rest → IsForm text m → rest ≡ text ++ behind → Follow bytes (messages ++ m ∷ []) behind
-more_messages bytes [] rest text behind m f form is = (text, behind, form, f ∙ is, refl)
-more_messages bytes (n ∷ messages) rest text behind m f form is = (f.0, f.1, f.2, f.3, more_messages f.1 messages rest text behind m f.4 form is)
+use Rattle.dbus_values.proofs.Following.{follow_bytes, follow_text}
+use Rattle.client_link.specs.Following.{NoneIs, Passes}
 
 -- one more that is no such message
 pub none_more : (test : Seen → Bool) (messages : List Seen) (m : Seen) → NoneIs test messages → test m ≡ false → NoneIs test (messages ++ m ∷ [])
@@ -25,12 +16,12 @@ passes_first test bytes = record { passed = []; follow = refl; none_is = tt }
 
 -- more bytes were read
 pub passes_bytes : (test : Seen → Bool) (bytes rest more : List ℕ) → Passes test bytes rest → Passes test (bytes ++ more) (rest ++ more)
-passes_bytes test bytes rest more p = record { passed = p.passed; follow = more_bytes bytes p.passed rest more p.follow; none_is = p.none_is }
+passes_bytes test bytes rest more p = record { passed = p.passed; follow = follow_bytes bytes p.passed rest more p.follow; none_is = p.none_is }
 
 -- one more message was passed over
 pub passes_message : (test : Seen → Bool) (bytes rest text behind : List ℕ) (m : Seen) → Passes test bytes rest → IsForm text m → rest ≡ text ++ behind → test m ≡ false → Passes test bytes behind
 passes_message test bytes rest text behind m p form is not_it = record {
   passed = p.passed ++ m ∷ [];
-  follow = more_messages bytes p.passed rest text behind m p.follow form is;
+  follow = follow_text bytes p.passed rest text behind m p.follow form is;
   none_is = none_more test p.passed m p.none_is not_it;
 }

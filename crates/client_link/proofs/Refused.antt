@@ -5,7 +5,7 @@ use Rattle.link_handshake.specs.Clients.{first_bytes}
 use Rattle.client_link.specs.declared.shaking.TheConstants.{BEGIN_LINE}
 use Rattle.client_link.specs.declared.stop.LinkStop.{LinkStop}
 use Rattle.client_link.specs.declared.stop.LinkStop.TheVariants as stop
-use Rattle.client_link.specs.Following.{IsFront}
+use Rattle.pk_outside.specs.Allowing.{IsFront}
 use Rattle.client_link.specs.Sending.{Sends}
 use Rattle.client_link.specs.Shakings.{Accepts, Shakes, ShakesHands, client_bytes}
 

@@ -2,16 +2,7 @@
 use Rattle.std.specs.Prelude.{◌≡◌, Bool, true, false, List, [], ◌∷◌, ◌++◌, ℕ}
 use Rattle.std.specs.List.{All}
 use Rattle.dbus_values.specs.Next.{Seen}
-use Rattle.dbus_values.specs.Streams.{IsForm}
-
--- a prefix of the bytes
-abbrev pub IsFront : List ℕ → List ℕ → Type 0
-IsFront front bytes = (rest : List ℕ) × (bytes ≡ front ++ rest)
-
--- the bytes begin with these messages, one after the other, and the rest follows
-abbrev pub Follow : List ℕ → List Seen → List ℕ → Type 0
-Follow bytes [] rest = bytes ≡ rest
-Follow bytes (m ∷ messages) rest = (text : List ℕ) × (more : List ℕ) × IsForm text m × (bytes ≡ text ++ more) × Follow more messages rest
+use Rattle.dbus_values.specs.Streams.{Follow, IsForm}
 
 -- none of these messages is such a one
 abbrev pub NoneIs : (Seen → Bool) → List Seen → Type 0

@@ -9,7 +9,7 @@ use Rattle.client_link.specs.declared.shaking.Feeding.TheVariants as feeding
 use Rattle.client_link.specs.declared.shaking.TheConstants.{BEGIN_LINE}
 use Rattle.client_link.specs.declared.stop.LinkStop.{LinkStop}
 use Rattle.client_link.specs.declared.stop.LinkStop.TheVariants as stop
-use Rattle.client_link.specs.Following.{IsFront}
+use Rattle.pk_outside.specs.Allowing.{IsFront}
 
 -- all that a client of that uid sends before its messages: byte 0, its line `AUTH EXTERNAL`, and `BEGIN`
 abbrev pub client_bytes : ℕ → List ℕ

@@ -18,7 +18,7 @@ use Rattle.authority_model.specs.declared.journal.Limits.{Limits}
 use Rattle.authority_model.specs.Given.{Given, What, event_given}
 use Rattle.authority_calls.specs.Events.{event_of}
 use Rattle.dbus_values.specs.Next.{Seen}
-use Rattle.dbus_values.specs.Streams.{IsForm}
+use Rattle.dbus_values.specs.Streams.{Follow, IsForm}
 use Rattle.shared_authority.specs.Journals.{IsJournal, caller_of, past_of}
 use Rattle.connection_laws.specs.Doings.{Did, DidLast}
 use Rattle.connection_laws.specs.Knowing.{KnowsMore}
@@ -26,8 +26,8 @@ use Rattle.shared_authority.specs.Passes.{Entered}
 use Rattle.connection_laws.proofs.Doing.{did_entered, did_learned, did_none}
 use Rattle.connection_laws.proofs.Growing.{knows_entered, knows_learned, knows_trans}
 use Rattle.connection_reader.specs.Hands.{HandsIn}
-use Rattle.connection_reader.specs.Reading.{Follow, Hand, IsRefused, IsThrough, IsUnderway, Reading, due, hand}
-use Rattle.connection_reader.proofs.Follows.{follow_more, follow_next}
+use Rattle.connection_reader.specs.Reading.{Hand, IsRefused, IsThrough, IsUnderway, Reading, due, hand}
+use Rattle.dbus_values.proofs.Following.{follow_bytes, follow_next}
 use Rattle.connection_lookout.proofs.Watching.{look_learned, watched_failed, watched_grown, watched_more, watched_on, watched_self}
 use Rattle.connection_lookout.specs.Watching.{IsFresh, Looks, Watch, Watched, own}
 
@@ -245,7 +245,7 @@ more_read uid s t left more r gave = record {
   read = r.read ++ more;
   gave = Gave-more s.left t.left left r.read more r.gave gave;
   messages = r.messages;
-  stream = subst (λ (bytes : List ℕ). Follow bytes r.messages (t.unread ++ more)) (append_assoc s.unread r.read more) (follow_more (s.unread ++ r.read) r.messages t.unread more r.stream);
+  stream = subst (λ (bytes : List ℕ). Follow bytes r.messages (t.unread ++ more)) (append_assoc s.unread r.read more) (follow_bytes (s.unread ++ r.read) r.messages t.unread more r.stream);
   handed = r.handed;
   did = r.did;
   asks = r.asks;

@@ -9,7 +9,7 @@ use Rattle.connection_reader.specs.declared.ends.ReadStop.{ReadStop}
 use Rattle.connection_reader.specs.declared.ends.ReadStop.TheVariants as stop
 use Rattle.connection_reader.specs.Reading.{Hand, IsThrough, ReadsTo}
 use Rattle.connection_reader.specs.Stops.{Stops, end_of}
-use Rattle.connection_reader.proofs.Follows.{none_bad, none_partial}
+use Rattle.dbus_values.proofs.Following.{none_bad, none_partial}
 
 -- the end of the connection was handed in behind a stop
 pub reads_to : (limits : Limits) (uid : ℕ) (s t : Hand) (ended : Bool) (why : ReadStop) → IsThrough uid s t → Stops ended t.unread (Some why) → ReadsTo limits uid s t ended (end_of (Ok why))

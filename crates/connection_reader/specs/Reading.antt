@@ -9,18 +9,13 @@ use Rattle.authority_model.specs.declared.journal.Limits.{Limits}
 use Rattle.authority_model.specs.Given.{Given, What}
 use Rattle.authority_calls.specs.Events.{event_of}
 use Rattle.dbus_values.specs.Next.{Seen, Partial, Bad, next_of}
-use Rattle.dbus_values.specs.Streams.{IsForm, NoneWhole}
+use Rattle.dbus_values.specs.Streams.{Follow, IsForm, NoneWhole}
 use Rattle.shared_authority.specs.Journals.{Fits, past_of}
 use Rattle.connection_laws.specs.Doings.{Did}
 use Rattle.connection_laws.specs.Knowing.{KnowsMore}
 use Rattle.connection_reader.specs.declared.ends.ReaderEnd.{ReaderEnd}
 use Rattle.connection_reader.specs.declared.ends.ReaderEnd.TheVariants as reader
 use Rattle.connection_lookout.specs.Watching.{Watch, Watched, own}
-
--- the bytes begin with these messages, one after the other, and the rest follows
-abbrev pub Follow : List ℕ → List Seen → List ℕ → Type 0
-Follow bytes [] rest = bytes ≡ rest
-Follow bytes (m ∷ messages) rest = (text : List ℕ) × (more : List ℕ) × IsForm text m × (bytes ≡ text ++ more) × Follow more messages rest
 
 -- what messages ask
 abbrev pub asked : List Seen → List What

@@ -1,5 +1,5 @@
 // What the two halves of a connection have in common.
-use connection_writer::{Begun, Desk};
+use connection_writer::{AnswerDesk, Begun};
 use history_lock::TableName;
 use pk_outside::Sink;
 use shared_authority::{LimitsName, Shared};
@@ -14,5 +14,5 @@ pub struct Common<'a, 'w, L: LimitsName, T: TableName, O: Sink, B: Begun, R: Wai
     /// The authority, which all connections share.
     pub shared: &'a Shared<L, T>,
     /// The desk.
-    pub desk: &'a Mutex<Desk<'w, L, T, O, B>>,
+    pub desk: &'a Mutex<AnswerDesk<'w, L, T, O, B>>,
 }

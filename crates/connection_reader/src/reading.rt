@@ -8,10 +8,10 @@ ghost use Rattle.connection_reader.specs.Stops.{end_of, IsStoppedBy, SightFaults
 
 use crate::common::Common;
 use crate::ends::{ReadStop, ReaderEnd, end_of};
-use crate::handing::{Answerer, hand_in};
+use crate::handing::{Answerer, hand_in, look_before};
 use crate::inbox::Inbox;
 use authority_model::Event;
-use connection_lookout::{SightFailed, look};
+use connection_lookout::SightFailed;
 use connection_writer::Begun;
 use history_lock::{EndCause, Pass, TableName};
 use pk_outside::{Clock, Salt, Sights, Sink, Source};
@@ -54,7 +54,7 @@ fn read_next<
 {
     match inbox.next_event() {
         NextEvent::Whole { event, used } => {
-            match look(common.rt, common.shared, pass, sighter, sights, &event) {
+            match look_before(common, pass, sighter, sights, &event) {
                 Ok(()) => {}
                 Err(SightFailed) => return Ok(Some(ReadStop::SightFault)),
             }

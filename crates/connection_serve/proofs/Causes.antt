@@ -7,7 +7,7 @@ use Rattle.connection_reader.specs.Reading.{ReadFaults}
 use Rattle.connection_serve.specs.Halves.{ReaderFaults}
 use Rattle.pk_outside.specs.Causes.{FailsLast, Rose, one_more}
 use Rattle.pk_outside.specs.Streams.{Got, GotFront}
-use Rattle.connection_serve.specs.Headline.{IsFront}
+use Rattle.pk_outside.specs.Allowing.{IsFront}
 
 -- a count that rose is above 0
 pub rose_above : (before now : ℕ) → Rose before now → 0 < now

@@ -22,7 +22,8 @@ use Rattle.connection_serve.specs.declared.ends.End.{End}
 use Rattle.connection_serve.specs.declared.ends.End.TheVariants as end
 use Rattle.connection_serve.specs.Ends.{end_of, with_writer}
 use Rattle.connection_serve.specs.Halves.{Halves, HasBegun, HasEnded, Meets, ReaderFaults}
-use Rattle.connection_serve.specs.Headline.{EndFaults, EndFits, EndIsKept, EndsEarly, EndsLate, IsCollected, IsCollecting, IsFresh, IsFront, IsLate, IsWhole, Serves, Story, Tells, departure, greeting, sent_texts}
+use Rattle.pk_outside.specs.Allowing.{IsFront}
+use Rattle.connection_serve.specs.Headline.{EndFaults, EndFits, EndIsKept, EndsEarly, EndsLate, IsCollected, IsCollecting, IsFresh, IsLate, IsWhole, Serves, Story, Tells, departure, greeting, sent_texts}
 use Rattle.connection_writer.specs.declared.ends.WriterEnd.{WriterEnd}
 use Rattle.connection_writer.specs.declared.ends.WriterEnd.TheVariants as writer
 use Rattle.connection_writer.specs.Writing.{Writing, WritesTo, taken_texts}

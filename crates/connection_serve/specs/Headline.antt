@@ -11,16 +11,17 @@ use Rattle.authority_model.specs.Licensed.{AllLicensed}
 use Rattle.authority_model.specs.Sent.{sent_to}
 use Rattle.connection_laws.specs.Doings.{Did}
 use Rattle.connection_laws.specs.Takings.{Finds}
-use Rattle.connection_reader.specs.Reading.{Follow, due}
+use Rattle.connection_reader.specs.Reading.{due}
 use Rattle.connection_serve.specs.declared.ends.End.{End}
 use Rattle.connection_serve.specs.declared.ends.End.TheVariants as end
 use Rattle.connection_writer.specs.Writing.{collects_of, taken_texts}
 use Rattle.dbus_values.specs.Next.{Bad, Partial, Seen, next_of}
-use Rattle.dbus_values.specs.Streams.{NoneWhole}
+use Rattle.dbus_values.specs.Streams.{Follow, NoneWhole}
 use Rattle.history_lock.specs.Entries.{NoneBy}
 use Rattle.history_lock.specs.Known.{Known}
 use Rattle.link_handshake.specs.Replies.{reply_lines}
 use Rattle.link_handshake.specs.Shakes.{Begun, Failed, Open, shake}
+use Rattle.pk_outside.specs.Allowing.{IsFront}
 use Rattle.pk_outside.specs.Causes.{Rose}
 use Rattle.pk_outside.specs.Streams.{Gave, Got, IsUsedUp}
 use Rattle.shared_authority.specs.Journals.{Fits, IsJournal, caller_of, past_of}
@@ -33,10 +34,6 @@ pub record IsFresh (pass collector : Known Item) : Type 0 where
   pub none_by_pass : NoneBy caller_of pass.number pass.history
   pub none_by_collector : NoneBy caller_of collector.number pass.history
   pub same : pass.history ≡ collector.history
-
--- the bytes begin with these
-abbrev pub IsFront : List ℕ → List ℕ → Type 0
-IsFront front bytes = (rest : List ℕ) × (bytes ≡ front ++ rest)
 
 -- # Before the messages
 

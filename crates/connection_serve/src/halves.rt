@@ -18,7 +18,7 @@ ghost use Rattle.shared_authority.specs.Journals.{caller_of, past_of};
 use crate::ends::{LiveEnd, live_end_of};
 use connection_lookout::meet;
 use connection_reader::{Common, Inbox, ReaderEnd, read_connection};
-use connection_writer::{Begun, Desk, Writer, WriterEnd, write_as_it_comes, write_on};
+use connection_writer::{AnswerDesk, Begun, Writer, WriterEnd, write_as_it_comes, write_on};
 use history_lock::{Pass, TableName};
 use pk_outside::{Clock, Salt, Sights, Sink, Source};
 use shared_authority::{Kept, LimitsName, Shared};
@@ -150,7 +150,7 @@ fn read_with_writer<
         of,
         end: None,
     };
-    let desk: Mutex<Desk<L, T, O, B>> = Mutex::new(Desk::new(writer));
+    let desk: Mutex<AnswerDesk<L, T, O, B>> = Mutex::new(AnswerDesk::new(writer));
     let common = Common {
         rt,
         shared,

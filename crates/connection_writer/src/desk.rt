@@ -1,15 +1,14 @@
 // The desk at which the two threads of a connection write.
 ghost use Rattle.std.specs.Prelude.{◌≡◌, ◌≢◌, ◌≤◌, ◌^◌, IfOk, IfErr};
-ghost use Rattle.authority_model.specs.Given.{IsStepped, event_given};
-ghost use Rattle.shared_authority.specs.Passes.{Submitted, SubmitIsRefused};
+ghost use Rattle.authority_model.specs.Given.{IsStepped};
+ghost use Rattle.shared_authority.specs.Passes.{Submitted, SubmitIsRefused, own_given};
 ghost use Rattle.connection_writer.specs.Promises.{MayAnswer};
 ghost use Rattle.connection_writer.specs.Writing.{StandsAt};
 
 use crate::writer::Writer;
-use authority_model::Event;
 use history_lock::{Pass, TableName};
 use pk_outside::Sink;
-use shared_authority::{Kept, LimitsName, Shared, SubmitRefused};
+use shared_authority::{Given, Kept, LimitsName, Shared, SubmitRefused};
 use std::marker::{Brand, Model, PhantomData};
 use std::sync::{Mutex, Wait};
 
@@ -57,12 +56,12 @@ impl Begun for Brand {
 
 /// A writer that the two threads of a connection share. Whoever comes to it writes what is there.
 #[derive(Drop)]
-pub struct Desk<'a, L: LimitsName, T: TableName, O: Sink, B: Begun> {
+pub struct AnswerDesk<'a, L: LimitsName, T: TableName, O: Sink, B: Begun> {
     writer: Writer<'a, L, T, O>,
     of: PhantomData<B>,
 }
 
-impl<'a, L: LimitsName, T: TableName, O: Sink, B: Begun> Model for Desk<'a, L, T, O, B> {
+impl<'a, L: LimitsName, T: TableName, O: Sink, B: Begun> Model for AnswerDesk<'a, L, T, O, B> {
     ghost use Rattle.std.specs.Prelude.{◌≡◌, ◌≢◌};
     ghost use Rattle.connection_writer.specs.Promises.{MayAnswer};
     ghost use Rattle.connection_writer.specs.Writing.{StandsAt};
@@ -79,15 +78,15 @@ impl<'a, L: LimitsName, T: TableName, O: Sink, B: Begun> Model for Desk<'a, L, T
         × MayAnswer O.allowed B.held B.pass.number B.of };
 }
 
-impl<'a, L: LimitsName, T: TableName, O: Sink, B: Begun> Desk<'a, L, T, O, B> {
+impl<'a, L: LimitsName, T: TableName, O: Sink, B: Begun> AnswerDesk<'a, L, T, O, B> {
     /// A desk with this writer, which began so, and may write what is sent to its connection.
-    pub fn new(writer: Writer<'a, L, T, O>) -> Desk<'a, L, T, O, B>
+    pub fn new(writer: Writer<'a, L, T, O>) -> AnswerDesk<'a, L, T, O, B>
         requires of { (writer.of ≡ B.of) × (B.of ≢ 0) }
         requires names { (writer.pass.ghost_name ≡ B.pass_name) × (writer.sink.ghost_name ≡ B.sink_name) }
         requires stands { StandsAt L.limits B.of B.held B.faults B.pass (O.held writer.sink.now) (O.faults writer.sink.now) writer.pass.now writer.end }
         requires may { MayAnswer O.allowed B.held B.pass.number B.of }
     {
-        Desk {
+        AnswerDesk {
             writer,
             of: PhantomData,
         }
@@ -106,16 +105,14 @@ impl<'a, L: LimitsName, T: TableName, O: Sink, B: Begun> Desk<'a, L, T, O, B> {
         rt: &R,
         shared: &Shared<L, T>,
         pass: &mut Pass<Kept<L>, T>,
-        moment: u64,
-        salt: u128,
-        event: Event,
+        given: Given,
     ) -> Result<u64, SubmitRefused>
-        requires event { IsStepped event }
-        requires moment { moment ≤ 2 ^ 62 }
-        ensures ok { IfOk result (λ place. Submitted pass.old (event_given pass.old.number moment salt event) place pass.new) }
-        ensures err { IfErr result (λ refused. SubmitIsRefused L.limits pass.old event refused pass.new) }
+        requires event { IsStepped given.event }
+        requires moment { given.moment ≤ 2 ^ 62 }
+        ensures ok { IfOk result (λ place. Submitted pass.old (own_given pass.old given) place pass.new) }
+        ensures err { IfErr result (λ refused. SubmitIsRefused L.limits pass.old given.event refused pass.new) }
     {
-        self.writer.submit(rt, shared, pass, moment, salt, event)
+        self.writer.submit(rt, shared, pass, given)
     }
 
     /// The writer, as it stands since it began.
@@ -124,7 +121,7 @@ impl<'a, L: LimitsName, T: TableName, O: Sink, B: Begun> Desk<'a, L, T, O, B> {
         ensures names { (result.pass.ghost_name ≡ B.pass_name) × (result.sink.ghost_name ≡ B.sink_name) }
         ensures stands { StandsAt L.limits B.of B.held B.faults B.pass (O.held result.sink.now) (O.faults result.sink.now) result.pass.now result.end }
     {
-        let Desk { writer, of: _ } = self;
+        let AnswerDesk { writer, of: _ } = self;
         writer
     }
 }
@@ -138,20 +135,25 @@ impl<'a, L: LimitsName, T: TableName, O: Sink, B: Begun> Desk<'a, L, T, O, B> {
 pub fn submit_at_desk<L: LimitsName, T: TableName, O: Sink, B: Begun, R: Wait>(
     rt: &R,
     shared: &Shared<L, T>,
-    desk: &Mutex<Desk<'_, L, T, O, B>>,
+    desk: &Mutex<AnswerDesk<'_, L, T, O, B>>,
     pass: &mut Pass<Kept<L>, T>,
-    moment: u64,
-    salt: u128,
-    event: Event,
+    given: Given,
 ) -> Result<u64, SubmitRefused>
-    requires event { IsStepped event }
-    requires moment { moment ≤ 2 ^ 62 }
-    ensures ok { IfOk result (λ place. Submitted pass.old (event_given pass.old.number moment salt event) place pass.new) }
-    ensures err { IfErr result (λ refused. SubmitIsRefused L.limits pass.old event refused pass.new) }
+    requires event { IsStepped given.event }
+    requires moment { given.moment ≤ 2 ^ 62 }
+    ensures ok { IfOk result (λ place. Submitted pass.old (own_given pass.old given) place pass.new) }
+    ensures err { IfErr result (λ refused. SubmitIsRefused L.limits pass.old given.event refused pass.new) }
 {
     match desk.try_lock() {
-        Some(mut desk) => desk.submit(rt, shared, pass, moment, salt, event),
-        None => shared.submit(rt, pass, moment, salt, event),
+        Some(mut desk) => desk.submit(rt, shared, pass, given),
+        None => {
+            let Given {
+                moment,
+                salt,
+                event,
+            } = given;
+            shared.submit(rt, pass, moment, salt, event)
+        }
     }
 }
 
@@ -162,7 +164,7 @@ pub fn write_as_it_comes<L: LimitsName, T: TableName, O: Sink, B: Begun, R: Wait
     shared: &Shared<L, T>,
     by: u32,
     of: u32,
-    desk: &Mutex<Desk<'_, L, T, O, B>>,
+    desk: &Mutex<AnswerDesk<'_, L, T, O, B>>,
 ) {
     for _turn in rt.forever() {
         shared.wait_for_outputs(rt, by, of);

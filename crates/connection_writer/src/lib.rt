@@ -7,6 +7,6 @@ mod desk;
 mod ends;
 mod writer;
 
-pub use desk::{Begun, Desk, submit_at_desk, write_as_it_comes};
+pub use desk::{AnswerDesk, Begun, submit_at_desk, write_as_it_comes};
 pub use ends::WriterEnd;
 pub use writer::{Writer, write_answers, write_on};

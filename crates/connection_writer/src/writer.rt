@@ -3,18 +3,17 @@ ghost use Rattle.std.specs.Prelude.{◌≡◌, ◌≢◌, ◌≤◌, ◌^◌, �
 ghost use Rattle.authority_model.specs.declared.journal.Item.{Item};
 ghost use Rattle.history_lock.specs.Entries.{NoneBy};
 ghost use Rattle.history_lock.specs.Known.{Known};
-ghost use Rattle.authority_model.specs.Given.{IsStepped, event_given};
+ghost use Rattle.authority_model.specs.Given.{IsStepped};
 ghost use Rattle.shared_authority.specs.Journals.{caller_of};
-ghost use Rattle.shared_authority.specs.Passes.{CollectsNow, Submitted, SubmitIsRefused};
+ghost use Rattle.shared_authority.specs.Passes.{CollectsNow, Submitted, SubmitIsRefused, own_given};
 ghost use Rattle.connection_writer.specs.Promises.{Began, MayAnswer};
 ghost use Rattle.connection_writer.specs.Writing.{StandsAt, WritesTo, end_in};
 
 use crate::batches::write_batch;
 use crate::ends::{WriteStop, WriterEnd};
-use authority_model::Event;
 use history_lock::{Pass, TableName};
 use pk_outside::Sink;
-use shared_authority::{Collected, CollectedNow, Kept, LimitsName, Shared, SubmitRefused};
+use shared_authority::{Collected, CollectedNow, Given, Kept, LimitsName, Shared, SubmitRefused};
 use std::alloc::Global;
 use std::sync::Wait;
 
@@ -205,16 +204,14 @@ impl<'a, L: LimitsName, T: TableName, O: Sink> Writer<'a, L, T, O> {
         rt: &R,
         shared: &Shared<L, T>,
         pass: &mut Pass<Kept<L>, T>,
-        moment: u64,
-        salt: u128,
-        event: Event,
+        given: Given,
     ) -> Result<u64, SubmitRefused>
         requires of { self.old.of ≢ 0 }
-        requires event { IsStepped event }
-        requires moment { moment ≤ 2 ^ 62 }
+        requires event { IsStepped given.event }
+        requires moment { given.moment ≤ 2 ^ 62 }
         requires began { Began L.limits O.allowed self.old.of (O.held self.old.sink.now) (O.faults self.old.sink.now) self.old.pass.now self.old.end }
-        ensures ok { IfOk result (λ place. Submitted pass.old (event_given pass.old.number moment salt event) place pass.new) }
-        ensures err { IfErr result (λ refused. SubmitIsRefused L.limits pass.old event refused pass.new) }
+        ensures ok { IfOk result (λ place. Submitted pass.old (own_given pass.old given) place pass.new) }
+        ensures err { IfErr result (λ refused. SubmitIsRefused L.limits pass.old given.event refused pass.new) }
         ensures stands { (v : Known Item) (held : TheOption (TheList ℕ)) (faults : ℕ)
             → StandsAt L.limits self.old.of held faults v (O.held self.old.sink.now) (O.faults self.old.sink.now) self.old.pass.now self.old.end
             → StandsAt L.limits self.old.of held faults v (O.held self.new.sink.now) (O.faults self.new.sink.now) self.new.pass.now self.new.end }
@@ -222,11 +219,14 @@ impl<'a, L: LimitsName, T: TableName, O: Sink> Writer<'a, L, T, O> {
         ensures of { self.new.of ≡ self.old.of }
     {
         if self.end.is_some() {
+            let Given {
+                moment,
+                salt,
+                event,
+            } = given;
             return shared.submit(rt, pass, moment, salt, event);
         }
-        let (place, now) = shared.submit_and_collect(
-            rt, pass, moment, salt, event, self.pass, self.of,
-        )?;
+        let (place, now) = shared.submit_and_collect(rt, pass, given, self.pass, self.of)?;
         self.end = write_collected(rt, self.alloc, shared, self.pass, now, self.sink).err();
         Ok(place)
     }

@@ -20,6 +20,7 @@ pub mod Whole
 pub mod HeaderFound
 pub mod WholeFound
 pub mod Streaming
+pub mod Following
 pub mod Prefixes
 pub mod BodyFound
 pub mod Writing

@@ -17,6 +17,11 @@ IsForm bytes seen = (m : Message) × WireForm bytes m × (seen ≡ shown_of m)
 abbrev pub NoneWhole : List ℕ → Type 0
 NoneWhole bytes = (text more : List ℕ) (seen : Seen) → IsForm text seen → bytes ≡ text ++ more → ⊥
 
+-- the bytes begin with these messages, one after the other, and the rest follows
+abbrev pub Follow : List ℕ → List Seen → List ℕ → Type 0
+Follow bytes [] rest = bytes ≡ rest
+Follow bytes (m ∷ messages) rest = (text : List ℕ) × (more : List ℕ) × IsForm text m × (bytes ≡ text ++ more) × Follow more messages rest
+
 -- the bytes are these messages one after the other, and then a rest that begins with none
 abbrev pub Stream : List ℕ → List Seen → List ℕ → Type 0
 Stream bytes [] rest = (bytes ≡ rest) × NoneWhole rest

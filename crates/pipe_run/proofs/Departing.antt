@@ -14,12 +14,13 @@ use Rattle.pipe_run.specs.declared.ends.Stopped.TheVariants as stopped
 use Rattle.pipe_run.specs.declared.served.TheConstants.{CONNECTION}
 use Rattle.pipe_run.specs.Answered.{Answers, IsAdded, OnlyWriting, Service}
 use Rattle.pipe_run.specs.Bytes.{newest_bytes, sent_bytes}
-use Rattle.pipe_run.specs.Ends.{IsAtEnd, IsDeparted, IsFront, Pipes, Story, Tells, traffic}
+use Rattle.pk_outside.specs.Allowing.{IsFront}
+use Rattle.pipe_run.specs.Ends.{IsAtEnd, IsDeparted, Pipes, Story, Tells, traffic}
 use Rattle.pipe_run.specs.Handed.{awaits_message, depart_given, moments_of, words_of}
 use Rattle.pipe_run.specs.Stages.{IsDeparting, IsPosted, Running, Standing, Start}
 use Rattle.pipe_run.specs.Stops.{end_of}
 use Rattle.pipe_run.specs.Supplies.{Supply, Took}
-use Rattle.pipe_run.proofs.Following.{none_partial, to_stream}
+use Rattle.dbus_values.proofs.Following.{none_partial, to_stream}
 use Rattle.pipe_run.proofs.Posting.{posted_all, posted_before, posted_front, posted_more, posted_out}
 use Rattle.pipe_run.proofs.Staging.{progress, room_at, sent_more}
 use Rattle.pipe_run.proofs.Supplying.{took_more}

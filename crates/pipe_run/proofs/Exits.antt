@@ -3,7 +3,7 @@ use Rattle.std.proofs.Common.{◌≡◌, ◌<◌, ◌⊎◌, ℕ, zero, suc, Boo
 use Rattle.pk_outside.specs.Streams.{Gave, Got}
 use Rattle.dbus_values.specs.declared.fault.FaultKind.{FaultKind}
 use Rattle.dbus_values.specs.Next.{Seen, Partial, Bad, next_of}
-use Rattle.dbus_values.specs.Streams.{NoneWhole}
+use Rattle.dbus_values.specs.Streams.{Follow, NoneWhole}
 use Rattle.authority_model.specs.Given.{history_of}
 use Rattle.authority_model.specs.Legal.{Legal}
 use Rattle.authority_laws.proofs.Tracing.{access}
@@ -14,11 +14,12 @@ use Rattle.pipe_run.specs.declared.ends.Stopped.TheVariants as stopped
 use Rattle.pipe_run.specs.declared.served.TheConstants.{CONNECTION}
 use Rattle.pipe_run.specs.Answered.{OnlyWriting}
 use Rattle.pipe_run.specs.Bytes.{sent_bytes}
-use Rattle.pipe_run.specs.Ends.{Follow, IsAnswered, IsFront, Pipes, Story, Tells, traffic}
+use Rattle.pk_outside.specs.Allowing.{IsFront}
+use Rattle.pipe_run.specs.Ends.{IsAnswered, Pipes, Story, Tells, traffic}
 use Rattle.pipe_run.specs.Handed.{awaits_message}
 use Rattle.pipe_run.specs.Stages.{Halt, Halted, HaltedBy, Running, Stage, Standing, Start}
 use Rattle.pipe_run.specs.Stops.{end_of}
-use Rattle.pipe_run.proofs.Following.{none_bad, none_partial, to_stream}
+use Rattle.dbus_values.proofs.Following.{none_bad, none_partial, to_stream}
 use Rattle.pipe_run.proofs.Posting.{posted_all, posted_front}
 use Rattle.pipe_run.proofs.Staging.{progress}
 

@@ -2,7 +2,7 @@
 use Rattle.std.proofs.Common.{◌≡◌, ◌++◌, [], List, ℕ, Option, refl, sym, ◌∙◌, ap, subst, append_assoc, append-nil}
 use Rattle.pk_outside.specs.Streams.{Got, GotUpTo}
 use Rattle.pk_outside.proofs.Written.{Got-more, Got-none}
-use Rattle.pipe_run.specs.Ends.{IsFront}
+use Rattle.pk_outside.specs.Allowing.{IsFront}
 use Rattle.pipe_run.specs.Stages.{IsPosted}
 
 -- nothing was sent

@@ -15,7 +15,7 @@ use Rattle.pipe_run.specs.Faults.{InputFaults, OutputFaults, ReadsNothing}
 use Rattle.pipe_run.specs.Stages.{Running, Stage, Standing, Start, standing}
 use Rattle.pipe_run.specs.Stops.{end_of}
 use Rattle.pipe_run.specs.Supplies.{Supply}
-use Rattle.pipe_run.proofs.Following.{more_bytes, next_message}
+use Rattle.dbus_values.proofs.Following.{follow_bytes, follow_next}
 use Rattle.pipe_run.proofs.Staging.{staged_out}
 use Rattle.pipe_run.proofs.Written.{fails_later}
 
@@ -26,7 +26,7 @@ answered_on s now new l0 l pending pending' used m r form is turned = subst (Run
   read = r.read;
   messages = r.messages ++ m ∷ [];
   gave = r.gave;
-  follow = next_message r.read r.messages pending used m r.follow form;
+  follow = follow_next r.read r.messages pending used m r.follow form;
   stage = turned r.messages r.stage;
 })
 
@@ -47,7 +47,7 @@ more_read s now l0 l l' pending pending' got r gave is = subst (Running s now l0
   read = r.read ++ got;
   messages = r.messages;
   gave = Gave-more l0 l l' r.read got r.gave gave;
-  follow = more_bytes r.read r.messages pending got r.follow;
+  follow = follow_bytes r.read r.messages pending got r.follow;
   stage = r.stage;
 })
 

@@ -13,7 +13,7 @@ use Rattle.pipe_run.specs.declared.ends.Stopped.TheVariants as stopped
 use Rattle.pipe_run.specs.declared.served.TheConstants.{CONNECTION}
 use Rattle.pipe_run.specs.Answered.{Answers, IsAdded, IsFilled, IsReady, IsWrittenOut, OnlyWriting, Service}
 use Rattle.pipe_run.specs.Bytes.{newest_bytes, sent_bytes}
-use Rattle.pipe_run.specs.Ends.{IsFront}
+use Rattle.pk_outside.specs.Allowing.{IsFront}
 use Rattle.pipe_run.specs.Handed.{Progress, AreHandedIn, IsDue, moments_of, words_of}
 use Rattle.pipe_run.specs.Stages.{Halted, IsPosted, Stage, Standing, Start, Turned, standing}
 use Rattle.pipe_run.specs.Supplies.{Supply, Took}

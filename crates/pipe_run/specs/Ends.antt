@@ -1,9 +1,10 @@
 -- How a run ends, by what was read, handed in and written.
 use Rattle.std.specs.Prelude.{◌≡◌, ℕ, ◌<◌, ◌≤◌, ◌⊎◌, Bool, true, false, IsTrue, List, [], ◌∷◌, ◌++◌, Option, Some, None, length}
 use Rattle.std.specs.Option.{option_to_list}
+use Rattle.pk_outside.specs.Allowing.{IsFront}
 use Rattle.pk_outside.specs.Streams.{Gave, Got}
 use Rattle.dbus_values.specs.Next.{Seen, Partial, Bad, next_of}
-use Rattle.dbus_values.specs.Streams.{IsForm, Stream}
+use Rattle.dbus_values.specs.Streams.{Follow, IsForm, Stream}
 use Rattle.authority_model.specs.declared.journal.Item.{Item}
 use Rattle.authority_model.specs.declared.journal.Limits.{Limits}
 use Rattle.authority_model.specs.Entering.{counted_bytes, is_full}
@@ -16,15 +17,6 @@ use Rattle.pipe_run.specs.declared.served.TheConstants.{CONNECTION}
 use Rattle.pipe_run.specs.Bytes.{sent_bytes}
 use Rattle.pipe_run.specs.Supplies.{Supply, Took}
 use Rattle.pipe_run.specs.Handed.{Opening, Progress, AreHandedIn, IsDue, awaits_message, depart_given, moments_of, words_of}
-
--- the bytes begin with these messages, one after the other, and the rest follows
-abbrev pub Follow : List ℕ → List Seen → List ℕ → Type 0
-Follow bytes [] rest = bytes ≡ rest
-Follow bytes (m ∷ messages) rest = (text : List ℕ) × (more : List ℕ) × IsForm text m × (bytes ≡ text ++ more) × Follow more messages rest
-
--- a prefix of the bytes
-abbrev pub IsFront : List ℕ → List ℕ → Type 0
-IsFront front bytes = (rest : List ℕ) × (bytes ≡ front ++ rest)
 
 -- What was read, what was handed in for it, and how far that came.
 pub record Story : Type 0 where

@@ -17,7 +17,9 @@ use Rattle.pipe_run.specs.Bytes.{sent_bytes}
 use Rattle.authority_model.specs.declared.load.Loaded.{Loaded}
 use Rattle.pipe_run.specs.declared.ends.PipeEnd.{PipeEnd}
 use Rattle.pipe_run.specs.Supplies.{Supply, Took}
-use Rattle.pipe_run.specs.Ends.{Follow, IsFront, Pipes, traffic}
+use Rattle.dbus_values.specs.Streams.{Follow}
+use Rattle.pk_outside.specs.Allowing.{IsFront}
+use Rattle.pipe_run.specs.Ends.{Pipes, traffic}
 use Rattle.pipe_run.specs.Handed.{Opening, Progress, AreHandedIn, IsDue, depart_given, moments_of, words_of}
 
 -- How a run began: what it is made from, the limits of its journal, how often the tree had failed, and what the clock and the salt had given and the output held.

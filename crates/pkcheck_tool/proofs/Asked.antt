@@ -14,7 +14,7 @@ use Rattle.pkcheck_tool.specs.declared.status.CheckStatus.{CheckStatus}
 use Rattle.pkcheck_tool.specs.Asking.{Converses, Says, sent_bytes}
 use Rattle.pkcheck_tool.specs.Checks.{Asks, LinkFailed, Visited, Visits}
 use Rattle.pkcheck_tool.specs.Statuses.{status_of_stop}
-use Rattle.client_link.specs.Following.{IsFront}
+use Rattle.pk_outside.specs.Allowing.{IsFront}
 use Rattle.pkcheck_tool.proofs.Visiting.{rose_later, visits}
 
 -- how an answer of the conversation is answered

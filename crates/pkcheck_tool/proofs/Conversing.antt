@@ -14,7 +14,8 @@ use Rattle.client_messages.specs.declared.answer.ClientAnswer.{ClientAnswer}
 use Rattle.client_link.specs.declared.stop.LinkStop.{LinkStop}
 use Rattle.client_link.specs.declared.stop.LinkStop.TheVariants as stop
 use Rattle.client_link.specs.Faults.{LinkFaults, faults_after}
-use Rattle.client_link.specs.Following.{IsFirst, IsFront, Passes}
+use Rattle.pk_outside.specs.Allowing.{IsFront}
+use Rattle.client_link.specs.Following.{IsFirst, Passes}
 use Rattle.client_link.specs.Messages.{Brings, IsTaken}
 use Rattle.client_link.specs.Sending.{Sends}
 use Rattle.client_link.specs.Shakings.{BeginsIn, Shakes, ShakesHands, client_bytes}

@@ -1,7 +1,7 @@
 -- From what was told to the status.
 use Rattle.std.proofs.Common.{◌≡◌, ◌⊎◌, ℕ, Bool, true, false, List, [], ◌++◌, Option, Some, None, refl, sym, ap, ◌∙◌, inl, inr, append-nil, cond}
 use Rattle.pk_types.specs.declared.values.Pair.{Pair}
-use Rattle.client_link.specs.Following.{IsFront}
+use Rattle.pk_outside.specs.Allowing.{IsFront}
 use Rattle.client_commands.specs.declared.check.reading.CheckPlan.{CheckPlan}
 use Rattle.client_commands.specs.CheckPlans.{plan_of}
 use Rattle.pkcheck_tool.specs.declared.reply.Reply.{Reply}

@@ -13,7 +13,8 @@ use Rattle.authority_messages.specs.Outgoing.{under}
 use Rattle.client_messages.specs.Calls.{call_for}
 use Rattle.client_link.specs.declared.stop.LinkStop.{LinkStop}
 use Rattle.client_link.specs.declared.stop.LinkStop.TheVariants as stop
-use Rattle.client_link.specs.Following.{IsFirst, IsFront, Passes}
+use Rattle.pk_outside.specs.Allowing.{IsFront}
+use Rattle.client_link.specs.Following.{IsFirst, Passes}
 use Rattle.client_link.specs.Shakings.{BeginsIn, FailsIn, client_bytes}
 use Rattle.client_commands.specs.declared.check.reading.CheckPlan.{CheckPlan}
 use Rattle.pkcheck_tool.specs.declared.asking.TheConstants.{SERIAL}

@@ -8,7 +8,7 @@ use Rattle.link_handshake.specs.Clients.{awaited}
 use Rattle.link_handshake.specs.Shakes.{Begun}
 use Rattle.client_link.specs.declared.stop.LinkStop.TheVariants as stop
 use Rattle.client_link.specs.Faults.{OneFailed}
-use Rattle.client_link.specs.Following.{IsFront}
+use Rattle.pk_outside.specs.Allowing.{IsFront}
 use Rattle.client_commands.specs.declared.check.reading.CheckPlan.{CheckPlan}
 use Rattle.client_commands.specs.CheckPlans.{plan_of}
 use Rattle.pkcheck_tool.specs.declared.reply.Reply.{Reply}

@@ -8,7 +8,7 @@ use Rattle.authority_messages.specs.Outgoing.{under}
 use Rattle.client_messages.specs.Calls.{call_for}
 use Rattle.client_link.specs.declared.stop.LinkStop.{LinkStop}
 use Rattle.client_link.specs.declared.stop.LinkStop.TheVariants as stop
-use Rattle.client_link.specs.Following.{IsFront}
+use Rattle.pk_outside.specs.Allowing.{IsFront}
 use Rattle.client_link.specs.Shakings.{client_bytes}
 use Rattle.script_agent.specs.declared.status.AgentStatus.TheVariants as status
 use Rattle.script_agent.specs.Challenges.{Ask, response, ask_bytes, asks_from, helper_bytes}

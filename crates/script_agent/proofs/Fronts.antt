@@ -7,7 +7,7 @@ use Rattle.authority_model.specs.Words.{Bytes}
 use Rattle.client_link.specs.declared.stop.LinkStop.{LinkStop}
 use Rattle.client_link.specs.declared.stop.LinkStop.TheVariants as stop
 use Rattle.client_link.specs.Faults.{OneFailed}
-use Rattle.client_link.specs.Following.{IsFront}
+use Rattle.pk_outside.specs.Allowing.{IsFront}
 use Rattle.script_agent.specs.Lines.{LineNow, IsSound}
 use Rattle.script_agent.specs.Steps.{link_fails}
 

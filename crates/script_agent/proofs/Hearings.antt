@@ -3,13 +3,12 @@ use Rattle.std.proofs.Common.{◌≡◌, ℕ, Bool, List, [], ◌∷◌, ◌++�
 use Rattle.pk_outside.specs.Streams.{Gave}
 use Rattle.pk_outside.proofs.Written.{Gave-none, Gave-more}
 use Rattle.dbus_values.specs.Next.{Seen}
-use Rattle.dbus_values.specs.Streams.{IsForm}
+use Rattle.dbus_values.specs.Streams.{Follow, IsForm}
 use Rattle.authority_model.specs.Words.{Bytes}
 use Rattle.client_link.specs.declared.stop.LinkStop.{LinkStop}
 use Rattle.client_link.specs.declared.stop.LinkStop.TheVariants as stop
-use Rattle.client_link.specs.Following.{Follow}
 use Rattle.client_link.specs.Messages.{Brings, IsTaken}
-use Rattle.client_link.proofs.Follows.{more_bytes, more_messages}
+use Rattle.dbus_values.proofs.Following.{follow_bytes, follow_text}
 use Rattle.script_agent.specs.Waits.{first_of, Finds, Hears}
 use Rattle.script_agent.proofs.Firsts.{first_of-none}
 
@@ -29,7 +28,7 @@ taken : {A B : Type 0} {tells : Seen → Option A} {a b : Option Bytes} {r0 r1 r
     → Follow (r0 ++ (h.read ++ read)) (h.messages ++ t.message ∷ []) r2
 taken {r0 = r0} {r1 = r1} {r2 = r2} h read t =
     subst (λ (b : Bytes). Follow b (h.messages ++ t.message ∷ []) r2) (append_assoc r0 h.read read)
-    (more_messages ((r0 ++ h.read) ++ read) h.messages (r1 ++ read) t.text r2 t.message (more_bytes (r0 ++ h.read) h.messages r1 read h.follow) t.form t.cut)
+    (follow_text ((r0 ++ h.read) ++ read) h.messages (r1 ++ read) t.text r2 t.message (follow_bytes (r0 ++ h.read) h.messages r1 read h.follow) t.form t.cut)
 
 -- one more that tells nothing
 pub hearing_more : {A B : Type 0} (tells : Seen → Option A) (a b c : Option Bytes) (r0 r1 r2 : Bytes) (f : Seen → B) (told : B) (read : Bytes) → Hearing tells a b r0 r1 → Gave b c read → IsTaken f (r1 ++ read) r2 told
@@ -68,7 +67,7 @@ hearing_stop tells a b c ended r0 r1 r2 f why read h gave shows = record {
   messages = h.messages;
   rest = r1 ++ read;
   gave = Gave-more a b c h.read read h.gave gave;
-  follow = subst (λ (x : Bytes). Follow x h.messages (r1 ++ read)) (append_assoc r0 h.read read) (more_bytes (r0 ++ h.read) h.messages r1 read h.follow);
+  follow = subst (λ (x : Bytes). Follow x h.messages (r1 ++ read)) (append_assoc r0 h.read read) (follow_bytes (r0 ++ h.read) h.messages r1 read h.follow);
   finds = by why shows;
 }
   where

@@ -20,7 +20,7 @@ use Rattle.link_handshake.specs.Clients.{awaited}
 use Rattle.link_handshake.specs.Shakes.{Open}
 use Rattle.client_link.specs.declared.stop.LinkStop.{LinkStop}
 use Rattle.client_link.specs.declared.stop.LinkStop.TheVariants as stop
-use Rattle.client_link.specs.Following.{IsFront}
+use Rattle.pk_outside.specs.Allowing.{IsFront}
 use Rattle.script_agent.specs.declared.status.AgentStatus.{AgentStatus}
 use Rattle.script_agent.specs.declared.status.AgentStatus.TheVariants as status
 use Rattle.script_agent.specs.declared.task.Task.{Task}

@@ -12,10 +12,10 @@ use Rattle.link_handshake.specs.Shakes.{Begun}
 use Rattle.client_link.specs.declared.stop.LinkStop.{LinkStop}
 use Rattle.client_link.specs.declared.stop.LinkStop.TheVariants as stop
 use Rattle.client_link.specs.Faults.{faults_after, LinkFaults}
-use Rattle.client_link.specs.Following.{Follow}
+use Rattle.dbus_values.specs.Streams.{Follow}
 use Rattle.client_link.specs.Sending.{Sends as Sending}
 use Rattle.client_link.specs.Shakings.{BeginsIn, ShakesHands}
-use Rattle.client_link.proofs.Follows.{more_bytes}
+use Rattle.dbus_values.proofs.Following.{follow_bytes}
 use Rattle.script_agent.specs.Lines.{LineNow, LineStory, Holds, IsToldBy, IsNew, IsBegun, dialled}
 use Rattle.script_agent.specs.Waits.{Hears, Waits, Sends, IsWritten}
 use Rattle.script_agent.proofs.Fronts.{err_along}
@@ -64,7 +64,7 @@ pub begun_more : (h : LineStory) (read : Bytes) (ended : Bool) (messages : List 
 begun_more h read ended messages rest b f = record {
   behind = b.behind ++ read;
   begun = λ more. ap awaited (append_assoc h.read read more) ∙ b.begun (read ++ more) ∙ ap Begun (sym (append_assoc b.behind read more));
-  follow = Follow-append (b.behind ++ read) h.messages (h.rest ++ read) messages rest (more_bytes b.behind h.messages h.rest read b.follow) f;
+  follow = Follow-append (b.behind ++ read) h.messages (h.rest ++ read) messages rest (follow_bytes b.behind h.messages h.rest read b.follow) f;
 }
 
 -- the story behind a wait

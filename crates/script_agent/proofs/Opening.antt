@@ -14,7 +14,7 @@ use Rattle.client_messages.specs.Calls.{call_for}
 use Rattle.client_link.specs.declared.stop.LinkStop.{LinkStop}
 use Rattle.client_link.specs.declared.stop.LinkStop.TheVariants as stop
 use Rattle.client_link.specs.Faults.{LinkFaults}
-use Rattle.client_link.specs.Following.{IsFront}
+use Rattle.pk_outside.specs.Allowing.{IsFront}
 use Rattle.client_link.specs.Shakings.{client_bytes}
 use Rattle.script_agent.specs.declared.status.AgentStatus.{AgentStatus}
 use Rattle.script_agent.specs.declared.status.AgentStatus.TheVariants as status

@@ -8,7 +8,7 @@ use Rattle.authority_model.specs.Words.{Bytes}
 use Rattle.client_link.specs.declared.stop.LinkStop.{LinkStop}
 use Rattle.client_link.specs.declared.stop.LinkStop.TheVariants as stop
 use Rattle.client_link.specs.Faults.{LinkFaults, OneFailed}
-use Rattle.client_link.specs.Following.{IsFront}
+use Rattle.pk_outside.specs.Allowing.{IsFront}
 use Rattle.client_link.specs.Shakings.{client_bytes, ShakesHands}
 use Rattle.script_agent.specs.declared.status.AgentStatus.TheVariants as status
 use Rattle.script_agent.specs.Challenges.{Ask, ask_bytes, helper_bytes}

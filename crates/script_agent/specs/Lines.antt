@@ -4,7 +4,7 @@ use Rattle.pk_outside.specs.Links.{Origin, bytes_of}
 use Rattle.pk_outside.specs.Streams.{Gave, IsUsedUp}
 use Rattle.dbus_values.specs.Next.{Seen}
 use Rattle.authority_model.specs.Words.{Bytes}
-use Rattle.client_link.specs.Following.{Follow}
+use Rattle.dbus_values.specs.Streams.{Follow}
 use Rattle.client_link.specs.Shakings.{BeginsIn}
 
 -- What a connection tells now: where it is from, what it will still give and whether it has met the

@@ -14,7 +14,7 @@ use Rattle.script_agent.specs.declared.status.AgentStatus.TheVariants as status
 use Rattle.script_agent.specs.declared.task.Task.{Task}
 use Rattle.client_messages.specs.declared.agent.AgentBegin.{AgentBegin}
 use Rattle.client_messages.specs.declared.agent.AgentReply.{AgentReply}
-use Rattle.client_link.specs.Following.{IsFront}
+use Rattle.pk_outside.specs.Allowing.{IsFront}
 use Rattle.client_link.specs.Shakings.{FailsIn}
 use Rattle.agent_rules.specs.Rules.{handling_for}
 use Rattle.script_agent.specs.Challenges.{Ask, Challenge, ask_of, asks_of, reply_of, word_of}

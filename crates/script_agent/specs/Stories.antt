@@ -7,7 +7,7 @@ use Rattle.link_handshake.specs.Clients.{awaited, first_bytes}
 use Rattle.link_handshake.specs.Shakes.{Open}
 use Rattle.client_messages.specs.declared.agent.AgentBegin.{AgentBegin}
 use Rattle.client_messages.specs.Agents.{begin_of}
-use Rattle.client_link.specs.Following.{IsFront}
+use Rattle.pk_outside.specs.Allowing.{IsFront}
 use Rattle.client_link.specs.Shakings.{FailsIn}
 use Rattle.agent_rules.specs.declared.line.Handling.{Handling}
 use Rattle.agent_rules.specs.declared.line.Handling.TheVariants as handling

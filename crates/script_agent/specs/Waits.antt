@@ -9,7 +9,8 @@ use Rattle.client_messages.specs.Answers.{answer_of}
 use Rattle.client_link.specs.declared.stop.LinkStop.{LinkStop}
 use Rattle.client_link.specs.declared.stop.LinkStop.TheVariants as stop
 use Rattle.client_link.specs.Faults.{faults_after}
-use Rattle.client_link.specs.Following.{Follow, IsFront}
+use Rattle.dbus_values.specs.Streams.{Follow}
+use Rattle.pk_outside.specs.Allowing.{IsFront}
 use Rattle.script_agent.specs.Lines.{LineNow}
 
 -- the first message that tells something, with those behind it

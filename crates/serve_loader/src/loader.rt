@@ -9,7 +9,7 @@ ghost use Rattle.serve_loader.specs.Loads.{HasEnded, IsLoad, Loads, LoadsEnd, Lo
 ghost use Rattle.serve_loader.specs.Turns.{idle, told_by};
 
 use crate::ends::LoaderEnd;
-use crate::loading::load_times;
+use crate::loading::Loader;
 use crate::wanted::{wanted_in, wants_stop};
 use authority_model::{Output, OutputList};
 use history_lock::{EndCause, Pass, TableName};
@@ -42,59 +42,51 @@ fn collect_next<L: LimitsName, T: TableName, R: Wait>(
     }
 }
 
-/// Loads for each LoadWanted before the first StopWanted among some outputs. Says how the loader
-/// ends, if it does.
-fn load_for<L: LimitsName, T: TableName, F: Tree, R: Threads + Wait + Sync>(
-    rt: &R,
-    alloc: Global,
-    shared: &Shared<L, T>,
-    pass: &mut Pass<Kept<L>, T>,
-    root: &Text,
-    tree: &mut F,
-    outputs: &[Output],
-) -> Option<LoaderEnd>
-    requires zero { pass.old.number ≡ 0 }
-    ensures goes_on { IfNone result ((v : Known Item) (from : ℕ) → from ≤ F.faults tree.old
-        → LoadsTo (IsLoad (F.told tree.old) root.now from (F.faults tree.old)) v pass.old (told_by outputs.now)
-        → LoadsTo (IsLoad (F.told tree.old) root.now from (F.faults tree.new)) v pass.new idle) }
-    ensures ends { IfSome result (λ end. (v : Known Item) (from : ℕ) → from ≤ F.faults tree.old
-        → LoadsTo (IsLoad (F.told tree.old) root.now from (F.faults tree.old)) v pass.old (told_by outputs.now)
-        → LoadsEnd L.limits (IsLoad (F.told tree.old) root.now from (F.faults tree.new)) v pass.new end) }
-    ensures same { F.told tree.new ≡ F.told tree.old }
-    ensures later { F.faults tree.old ≤ F.faults tree.new }
-{
-    let count = wanted_in(outputs);
-    let stop = wants_stop(outputs);
-    match load_times(rt, alloc, shared, pass, root, tree, count) {
-        Ok(()) => { if stop { Some(LoaderEnd::Stopped) } else { None } }
-        Err(cause) => Some(LoaderEnd::Ended { cause }),
+impl<L: LimitsName, T: TableName, R: Threads + Wait + Sync> Loader<'_, L, T, R> {
+    /// Loads for each LoadWanted before the first StopWanted among some outputs. Says how the loader
+    /// ends, if it does.
+    fn load_for<F: Tree>(
+        &self,
+        pass: &mut Pass<Kept<L>, T>,
+        tree: &mut F,
+        outputs: &[Output],
+    ) -> Option<LoaderEnd>
+        requires zero { pass.old.number ≡ 0 }
+        ensures goes_on { IfNone result ((v : Known Item) (from : ℕ) → from ≤ F.faults tree.old
+            → LoadsTo (IsLoad (F.told tree.old) self.now.root.now from (F.faults tree.old)) v pass.old (told_by outputs.now)
+            → LoadsTo (IsLoad (F.told tree.old) self.now.root.now from (F.faults tree.new)) v pass.new idle) }
+        ensures ends { IfSome result (λ end. (v : Known Item) (from : ℕ) → from ≤ F.faults tree.old
+            → LoadsTo (IsLoad (F.told tree.old) self.now.root.now from (F.faults tree.old)) v pass.old (told_by outputs.now)
+            → LoadsEnd L.limits (IsLoad (F.told tree.old) self.now.root.now from (F.faults tree.new)) v pass.new end) }
+        ensures same { F.told tree.new ≡ F.told tree.old }
+        ensures later { F.faults tree.old ≤ F.faults tree.new }
+    {
+        let count = wanted_in(outputs);
+        let stop = wants_stop(outputs);
+        match self.load_times(pass, tree, count) {
+            Ok(()) => { if stop { Some(LoaderEnd::Stopped) } else { None } }
+            Err(cause) => Some(LoaderEnd::Ended { cause }),
+        }
     }
-}
 
-/// Collects, and loads for each LoadWanted before the first StopWanted. Says how the loader ends, if
-/// it does.
-fn load_next<L: LimitsName, T: TableName, F: Tree, R: Threads + Wait + Sync>(
-    rt: &R,
-    alloc: Global,
-    shared: &Shared<L, T>,
-    pass: &mut Pass<Kept<L>, T>,
-    root: &Text,
-    tree: &mut F,
-) -> Option<LoaderEnd>
-    requires zero { pass.old.number ≡ 0 }
-    requires fresh { uid_of (past_of pass.old.history) 0 ≡ None }
-    ensures goes_on { IfNone result ((v : Known Item) (from : ℕ) → from ≤ F.faults tree.old
-        → LoadsTo (IsLoad (F.told tree.old) root.now from (F.faults tree.old)) v pass.old idle
-        → LoadsTo (IsLoad (F.told tree.old) root.now from (F.faults tree.new)) v pass.new idle) }
-    ensures ends { IfSome result (λ end. (v : Known Item) (from : ℕ) → from ≤ F.faults tree.old
-        → LoadsTo (IsLoad (F.told tree.old) root.now from (F.faults tree.old)) v pass.old idle
-        → LoadsEnd L.limits (IsLoad (F.told tree.old) root.now from (F.faults tree.new)) v pass.new end) }
-    ensures same { F.told tree.new ≡ F.told tree.old }
-    ensures later { F.faults tree.old ≤ F.faults tree.new }
-{
-    match collect_next(rt, shared, pass) {
-        Ok(outputs) => load_for(rt, alloc, shared, pass, root, tree, outputs.as_slice()),
-        Err(cause) => Some(LoaderEnd::Ended { cause }),
+    /// Collects, and loads for each LoadWanted before the first StopWanted. Says how the loader ends, if
+    /// it does.
+    fn load_next<F: Tree>(&self, pass: &mut Pass<Kept<L>, T>, tree: &mut F) -> Option<LoaderEnd>
+        requires zero { pass.old.number ≡ 0 }
+        requires fresh { uid_of (past_of pass.old.history) 0 ≡ None }
+        ensures goes_on { IfNone result ((v : Known Item) (from : ℕ) → from ≤ F.faults tree.old
+            → LoadsTo (IsLoad (F.told tree.old) self.now.root.now from (F.faults tree.old)) v pass.old idle
+            → LoadsTo (IsLoad (F.told tree.old) self.now.root.now from (F.faults tree.new)) v pass.new idle) }
+        ensures ends { IfSome result (λ end. (v : Known Item) (from : ℕ) → from ≤ F.faults tree.old
+            → LoadsTo (IsLoad (F.told tree.old) self.now.root.now from (F.faults tree.old)) v pass.old idle
+            → LoadsEnd L.limits (IsLoad (F.told tree.old) self.now.root.now from (F.faults tree.new)) v pass.new end) }
+        ensures same { F.told tree.new ≡ F.told tree.old }
+        ensures later { F.faults tree.old ≤ F.faults tree.new }
+    {
+        match collect_next(self.rt, self.shared, pass) {
+            Ok(outputs) => self.load_for(pass, tree, outputs.as_slice()),
+            Err(cause) => Some(LoaderEnd::Ended { cause }),
+        }
     }
 }
 
@@ -126,8 +118,14 @@ pub fn serve_loader<
     ensures grows { IsPrefix pass.old.history pass.new.history }
     ensures later { F.faults tree.old ≤ F.faults tree.new }
 {
+    let loader = Loader {
+        rt,
+        alloc,
+        shared,
+        root,
+    };
     for _turn in rt.forever() {
-        match load_next(rt, alloc, shared, pass, root, tree) {
+        match loader.load_next(pass, tree) {
             Some(end) => return end,
             None => {}
         }

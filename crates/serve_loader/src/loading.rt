@@ -103,52 +103,57 @@ fn tell_tree<F: Tree>(alloc: Global, tree: &mut F, gave: &Result<Loaded, LoadRef
     }
 }
 
-/// Loads the tree once, tells of it, and hands in what it gave.
-fn load_again<L: LimitsName, T: TableName, F: Tree, R: Threads + Wait + Sync>(
-    rt: &R,
-    alloc: Global,
-    shared: &Shared<L, T>,
-    pass: &mut Pass<Kept<L>, T>,
-    root: &Text,
-    tree: &mut F,
-) -> Result<(), EndCause>
-    requires zero { pass.old.number ≡ 0 }
-    ensures loads { (v : Known Item) (from count : ℕ) (stop : Bool) → from ≤ F.faults tree.old
-        → LoadsTo (IsLoad (F.told tree.old) root.now from (F.faults tree.old)) v pass.old (record { owed = count + 1; stop = stop })
-        → GoesOn L.limits (IsLoad (F.told tree.old) root.now from (F.faults tree.new)) v (record { owed = count; stop = stop }) pass.new result }
-    ensures same { F.told tree.new ≡ F.told tree.old }
-    ensures later { F.faults tree.old ≤ F.faults tree.new }
-    ensures number { pass.new.number ≡ pass.old.number }
-{
-    let gave = load_beside(rt, alloc, tree, root);
-    tell_tree(alloc, tree, &gave);
-    submit_loading(rt, shared, pass, gave)
+/// What the loader loads with.
+#[derive(Drop)]
+pub struct Loader<'a, L: LimitsName, T: TableName, R> {
+    /// The threads that load.
+    pub rt: &'a R,
+    /// Where memory is taken from.
+    pub alloc: Global,
+    /// The authority, which all connections share.
+    pub shared: &'a Shared<L, T>,
+    /// Below this directory the tree is loaded.
+    pub root: &'a Text,
 }
 
-/// Loads the tree so many times, and hands in what each load gave.
-pub(crate) fn load_times<L: LimitsName, T: TableName, F: Tree, R: Threads + Wait + Sync>(
-    rt: &R,
-    alloc: Global,
-    shared: &Shared<L, T>,
-    pass: &mut Pass<Kept<L>, T>,
-    root: &Text,
-    tree: &mut F,
-    count: usize,
-) -> Result<(), EndCause>
-    requires zero { pass.old.number ≡ 0 }
-    ensures loads { (v : Known Item) (from : ℕ) (stop : Bool) → from ≤ F.faults tree.old
-        → LoadsTo (IsLoad (F.told tree.old) root.now from (F.faults tree.old)) v pass.old (record { owed = count; stop = stop })
-        → GoesOn L.limits (IsLoad (F.told tree.old) root.now from (F.faults tree.new)) v (record { owed = 0; stop = stop }) pass.new result }
-    ensures same { F.told tree.new ≡ F.told tree.old }
-    ensures later { F.faults tree.old ≤ F.faults tree.new }
-    ensures number { pass.new.number ≡ pass.old.number }
-{
-    let mut left = count;
-    while left > 0 {
-        match load_again(rt, alloc, shared, pass, root, tree) {
-            Ok(()) => left -= 1,
-            Err(cause) => return Err(cause),
-        }
+impl<L: LimitsName, T: TableName, R: Threads + Wait + Sync> Loader<'_, L, T, R> {
+    /// Loads the tree once, tells of it, and hands in what it gave.
+    fn load_again<F: Tree>(&self, pass: &mut Pass<Kept<L>, T>, tree: &mut F) -> Result<(), EndCause>
+        requires zero { pass.old.number ≡ 0 }
+        ensures loads { (v : Known Item) (from count : ℕ) (stop : Bool) → from ≤ F.faults tree.old
+            → LoadsTo (IsLoad (F.told tree.old) self.now.root.now from (F.faults tree.old)) v pass.old (record { owed = count + 1; stop = stop })
+            → GoesOn L.limits (IsLoad (F.told tree.old) self.now.root.now from (F.faults tree.new)) v (record { owed = count; stop = stop }) pass.new result }
+        ensures same { F.told tree.new ≡ F.told tree.old }
+        ensures later { F.faults tree.old ≤ F.faults tree.new }
+        ensures number { pass.new.number ≡ pass.old.number }
+    {
+        let gave = load_beside(self.rt, self.alloc, tree, self.root);
+        tell_tree(self.alloc, tree, &gave);
+        submit_loading(self.rt, self.shared, pass, gave)
     }
-    Ok(())
+
+    /// Loads the tree so many times, and hands in what each load gave.
+    pub(crate) fn load_times<F: Tree>(
+        &self,
+        pass: &mut Pass<Kept<L>, T>,
+        tree: &mut F,
+        count: usize,
+    ) -> Result<(), EndCause>
+        requires zero { pass.old.number ≡ 0 }
+        ensures loads { (v : Known Item) (from : ℕ) (stop : Bool) → from ≤ F.faults tree.old
+            → LoadsTo (IsLoad (F.told tree.old) self.now.root.now from (F.faults tree.old)) v pass.old (record { owed = count; stop = stop })
+            → GoesOn L.limits (IsLoad (F.told tree.old) self.now.root.now from (F.faults tree.new)) v (record { owed = 0; stop = stop }) pass.new result }
+        ensures same { F.told tree.new ≡ F.told tree.old }
+        ensures later { F.faults tree.old ≤ F.faults tree.new }
+        ensures number { pass.new.number ≡ pass.old.number }
+    {
+        let mut left = count;
+        while left > 0 {
+            match self.load_again(pass, tree) {
+                Ok(()) => left -= 1,
+                Err(cause) => return Err(cause),
+            }
+        }
+        Ok(())
+    }
 }

@@ -10,14 +10,14 @@ ghost use Rattle.connection_writer.specs.Writing.{StandsAt};
 use crate::passes::{has_place, is_entered};
 use authority_model::{Call, Event, Limits};
 use connection_writer::{
-    Begun, Desk, Writer, WriterEnd, submit_at_desk, write_answers, write_as_it_comes,
+    AnswerDesk, Begun, Writer, WriterEnd, submit_at_desk, write_answers, write_as_it_comes,
 };
 use dbus_values::{Next, next_message};
 use history_lock::{Opened, Pass, TableName, open_table};
 use memory_outside::ByteSink;
 use pk_outside::Sink;
 use pk_types::NoMemory;
-use shared_authority::{Kept, LimitsName, Shared};
+use shared_authority::{Given, Kept, LimitsName, Shared};
 use std::alloc::Global;
 use std::marker::Brand;
 use std::sync::{Mutex, Wait};
@@ -205,7 +205,7 @@ fn write_at_desk<'w, L: LimitsName, T: TableName, O: Sink, B: Begun, R: Wait>(
     requires may { MayAnswer O.allowed B.held B.pass.number B.of }
 {
     let of = writer.of;
-    let desk: Mutex<Desk<L, T, O, B>> = Mutex::new(Desk::new(writer));
+    let desk: Mutex<AnswerDesk<L, T, O, B>> = Mutex::new(AnswerDesk::new(writer));
     if !hands_in(rt, shared, &desk, pass) {
         return None;
     }
@@ -217,12 +217,24 @@ fn write_at_desk<'w, L: LimitsName, T: TableName, O: Sink, B: Begun, R: Wait>(
 fn hands_in<L: LimitsName, T: TableName, O: Sink, B: Begun, R: Wait>(
     rt: &R,
     shared: &Shared<L, T>,
-    desk: &Mutex<Desk<'_, L, T, O, B>>,
+    desk: &Mutex<AnswerDesk<'_, L, T, O, B>>,
     pass: &mut Pass<Kept<L>, T>,
 ) -> bool {
-    has_place(submit_at_desk(rt, shared, desk, pass, 0, 0, announce(8)))
-        && has_place(submit_at_desk(rt, shared, desk, pass, 0, 0, announce(9)))
+    has_place(submit_at_desk(rt, shared, desk, pass, given(8)))
+        && has_place(submit_at_desk(rt, shared, desk, pass, given(9)))
         && is_entered(rt, shared, pass, Event::Depart)
+}
+
+/// That announcement, at the moment 0 and with the random word 0.
+fn given(serial: u32) -> Given
+    ensures event { IsStepped result.event }
+    ensures moment { result.moment ≡ 0 }
+{
+    Given {
+        moment: 0,
+        salt: 0,
+        event: announce(serial),
+    }
 }
 
 /// An announcement of process 5, in the call with this serial.

@@ -15,7 +15,8 @@ use Rattle.authority_model.specs.Entering.{is_full}
 use Rattle.authority_model.specs.Items.{loaded_of}
 use Rattle.authority_model.specs.Peers.{departed}
 use Rattle.authority_model.specs.Sent.{batch, sent_to}
-use Rattle.authority_model.specs.Given.{Given, load_given, next}
+use Rattle.authority_model.specs.Given.{Given, event_given, load_given, next}
+use Rattle.shared_authority.specs.declared.given.Given as handed
 use Rattle.shared_authority.specs.declared.collecting.Collected.{Collected}
 use Rattle.shared_authority.specs.declared.collecting.Collected.TheVariants as collected
 use Rattle.shared_authority.specs.declared.collecting.CollectRefused.{CollectRefused}
@@ -31,6 +32,10 @@ use Rattle.shared_authority.specs.declared.refused.SubmitLoadRefused.{SubmitLoad
 use Rattle.shared_authority.specs.declared.refused.SubmitLoadRefused.TheVariants as submit_load
 use Rattle.shared_authority.specs.declared.refused.SubmitUnlistRefused.{SubmitUnlistRefused}
 use Rattle.shared_authority.specs.declared.refused.SubmitUnlistRefused.TheVariants as submit_unlist
+
+-- what a pass hands in
+abbrev pub own_given : Known Item → handed.Given → Given
+own_given v g = event_given v.number g.moment g.salt g.event
 
 -- Others' items came, and then the item of what was handed in.
 pub record Entered (v : Known Item) (g : Given) (w : Known Item) : Type 0 where

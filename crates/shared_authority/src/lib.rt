@@ -4,6 +4,7 @@
 #![tactic(auto)]
 
 mod collecting;
+mod given;
 mod kept;
 mod operation;
 mod refused;
@@ -11,6 +12,7 @@ mod shared;
 mod waking;
 
 pub use collecting::{CollectRefused, Collected, CollectedNow};
+pub use given::Given;
 pub use kept::{Kept, LimitsName};
 pub use operation::{Op, Refusal, Reply};
 pub use refused::{SubmitLoadRefused, SubmitRefused, SubmitUnlistRefused};

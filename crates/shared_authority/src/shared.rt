@@ -9,12 +9,13 @@ ghost use Rattle.authority_model.specs.Entering.{AreAllowed};
 ghost use Rattle.authority_model.specs.Given.{IsStepped, event_given, load_given};
 ghost use Rattle.authority_laws.specs.Batches.{in_order};
 ghost use Rattle.shared_authority.specs.Journals.{IsJournal, Fits, caller_of};
-ghost use Rattle.shared_authority.specs.Passes.{Collects, CollectIsRefused, CollectsNow, HadRoom, Submitted, SubmitIsRefused, SubmitLoadIsRefused, SubmitUnlistIsRefused, Unlisted};
+ghost use Rattle.shared_authority.specs.Passes.{Collects, CollectIsRefused, CollectsNow, HadRoom, Submitted, SubmitIsRefused, SubmitLoadIsRefused, SubmitUnlistIsRefused, Unlisted, own_given};
 ghost use Rattle.history_lock.specs.declared.machine.TheConstants.{MOST_PASSES};
 
 use crate::collecting::{
     CollectRefused, Collected, CollectedNow, collected_now, collected_or_refused,
 };
+use crate::given::Given;
 use crate::kept::{Kept, LimitsName};
 use crate::operation::{Op, Refusal};
 use crate::refused::{
@@ -125,21 +126,24 @@ impl<L: LimitsName, T: TableName> Shared<L, T> {
         &self,
         rt: &R,
         pass: &mut Pass<Kept<L>, T>,
-        moment: u64,
-        salt: u128,
-        event: Event,
+        given: Given,
         collector: &mut Pass<Kept<L>, T>,
         of: u32,
     ) -> Result<(u64, CollectedNow), SubmitRefused>
-        requires event { IsStepped event }
-        requires moment { moment ≤ 2 ^ 62 }
-        ensures ok { IfOk result (λ (place, _). Submitted pass.old (event_given pass.old.number moment salt event) place pass.new) }
+        requires event { IsStepped given.event }
+        requires moment { given.moment ≤ 2 ^ 62 }
+        ensures ok { IfOk result (λ (place, _). Submitted pass.old (own_given pass.old given) place pass.new) }
         ensures room { OnOk result (HadRoom L.limits pass.new.history) }
         ensures collects { IfOk result (λ (_, now). CollectsNow L.limits collector.old of now collector.new) }
-        ensures err { IfErr result (λ refused. SubmitIsRefused L.limits pass.old event refused pass.new × (collector.new ≡ collector.old)) }
+        ensures err { IfErr result (λ refused. SubmitIsRefused L.limits pass.old given.event refused pass.new × (collector.new ≡ collector.old)) }
         ensures number { (pass.new.number ≡ pass.old.number) × (collector.new.number ≡ collector.old.number) }
         ensures grows { IsPrefix pass.old.history pass.new.history × IsPrefix collector.old.history collector.new.history }
     {
+        let Given {
+            moment,
+            salt,
+            event,
+        } = given;
         match self.lock.call_then(
             rt,
             pass,

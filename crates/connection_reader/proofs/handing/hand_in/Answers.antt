@@ -7,9 +7,9 @@ pub returns-in-Err : goal.returns-in-Err
 returns-in-Err g c = record {
   hands = record {
     moment = c.now-moment.result;
-    word = c.word-word.result;
+    word = c.word-salt.result;
     reading = c.now-moment.ensures.gave;
-    drawn = c.word-word.ensures.gave;
+    drawn = c.word-salt.ensures.gave;
     enters = record {
       fits = c.end.ensures.fits;
       learned = learned_trans caller_of IsJournal c.args.pass.now c.submit.new.pass c.end.new.pass

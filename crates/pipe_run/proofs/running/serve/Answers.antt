@@ -8,7 +8,8 @@ use Rattle.pipe_run.specs.declared.served.TheConstants.{CONNECTION}
 use Rattle.pipe_run.specs.Handed.{awaits_message}
 use Rattle.usual_calls.specs.Nexts.{Asks}
 use Rattle.pipe_run.proofs.Exits.{bad_bytes, halted, no_memory, read_fault, write_fault}
-use Rattle.pipe_run.proofs.Following.{left_fewer, next_message}
+use Rattle.dbus_values.proofs.Following.{follow_next}
+use Rattle.pipe_run.proofs.Following.{left_fewer}
 use Rattle.pipe_run.proofs.Serving.{answered_on, more_read, out_on, still_partial, stopped_writes}
 use Rattle.pipe_run.proofs.Written.{fails_later}
 use Rattle.pipe_run.proofs.running.serve.Goals.{in-Ok-write_out, in-Err-write_out}
@@ -37,7 +38,7 @@ returns-in-Err-take_message-clause-run g c s told root st =
     let asks : Asks c.bytes.result.now c.in-Whole.event c.in-Whole.used = c.in-Whole.ensures.exact in
     rw c.end.ensures.end
     (halted s _ r.messages (r.messages ++ asks.message ∷ []) c.in-Err-take_message.stopped r.read c.messages.buffer _ _ _ _ (c.in-Err-take_message.ensures.turned asks.message asks.asks s r.messages (told ∙ sym c.messages.invariant.told) root r.stage)
-    r.follow (next_message r.read r.messages c.messages.buffer c.in-Whole.used asks.message r.follow (subst (λ (b : List ℕ). IsForm (take c.in-Whole.used b) asks.message) c.bytes.ensures.bytes asks.form)) r.gave)
+    r.follow (follow_next r.read r.messages c.messages.buffer c.in-Whole.used asks.message r.follow (subst (λ (b : List ℕ). IsForm (take c.in-Whole.used b) asks.message) c.bytes.ensures.bytes asks.form)) r.gave)
 
 pub returns-in-Err-take_message-clause-write : goal.returns-in-Err-take_message-clause-write
 returns-in-Err-take_message-clause-write g c = rw c.end.ensures.end (stopped_writes g.O.Sink.held g.O.Sink.faults _ c.messages.output _ c.in-Err-take_message.stopped c.messages.invariant.wrote c.in-Err-take_message.ensures.faults)

@@ -5,10 +5,10 @@ use Rattle.shared_authority.proofs.Refusing.{event_comes_back}
 use Rattle.shared_authority.proofs.shared.Shared.submit_and_collect.Goals as goal
 
 pub into_place-requires : goal.into_place-requires
-into_place-requires g c = let a = c.in-Ok.ensures.ok in step_placed c.args.pass.now.number c.args.moment c.args.salt c.args.event a.learned.grown.before a.entry c.in-Ok.reply a.given.gives
+into_place-requires g c = let a = c.in-Ok.ensures.ok in step_placed c.args.pass.now.number c.args.given.moment c.args.given.salt c.args.given.event a.learned.grown.before a.entry c.in-Ok.reply a.given.gives
 
 pub returns-in-Ok-clause-ok : goal.returns-in-Ok-clause-ok
-returns-in-Ok-clause-ok g c = submitted g.L.LimitsName.limits c.args.pass.now c.call_then.new.pass c.args.moment c.args.salt c.into_place.result c.args.event c.in-Ok.reply c.into_place.ensures c.in-Ok.ensures.ok
+returns-in-Ok-clause-ok g c = submitted g.L.LimitsName.limits c.args.pass.now c.call_then.new.pass c.args.given.moment c.args.given.salt c.into_place.result c.args.given.event c.in-Ok.reply c.into_place.ensures c.in-Ok.ensures.ok
 
 pub returns-in-Ok-clause-collects : goal.returns-in-Ok-clause-collects
 returns-in-Ok-clause-collects g c =
@@ -22,7 +22,7 @@ pub returns-in-Ok-clause-room : goal.returns-in-Ok-clause-room
 returns-in-Ok-clause-room g c = had_room g.L.LimitsName.limits c.args.pass.now c.call_then.new.pass _ c.in-Ok.reply c.in-Ok.ensures.ok
 
 pub submit_refused-requires : goal.submit_refused-requires
-submit_refused-requires g c = event_comes_back g.L.LimitsName.limits c.args.pass.now c.call_then.new.pass c.args.moment c.args.salt c.args.event c.in-Err.first c.in-Err.ensures.err
+submit_refused-requires g c = event_comes_back g.L.LimitsName.limits c.args.pass.now c.call_then.new.pass c.args.given.moment c.args.given.salt c.args.given.event c.in-Err.first c.in-Err.ensures.err
 
 pub returns-in-Err-clause-err : goal.returns-in-Err-clause-err
-returns-in-Err-clause-err g c = (c.submit_refused.ensures g.L.LimitsName.limits c.args.pass.now c.call_then.new.pass c.args.moment c.args.salt c.args.event c.in-Err.ensures.err, c.in-Err.ensures.unmade)
+returns-in-Err-clause-err g c = (c.submit_refused.ensures g.L.LimitsName.limits c.args.pass.now c.call_then.new.pass c.args.given.moment c.args.given.salt c.args.given.event c.in-Err.ensures.err, c.in-Err.ensures.unmade)

@@ -1,7 +1,7 @@
 use Rattle.std.proofs.Common.{ℕ, sym, ◌∙◌, subst}
 use Rattle.connection_writer.specs.Writing.{StandsAt}
 use Rattle.connection_writer.specs.Promises.{MayAnswer}
-use Rattle.connection_writer.proofs.desk.Desk.write_ready.Goals as goal
+use Rattle.connection_writer.proofs.desk.AnswerDesk.write_ready.Goals as goal
 
 pub invariant_of-self : goal.invariant_of-self
 invariant_of-self g c =

@@ -2,14 +2,14 @@ use Rattle.std.proofs.Common.{◌≡◌, ◌≤◌, ◌+◌, ◌-◌, ◌∙◌,
 use Rattle.pk_outside.specs.Trees.{TreeTold}
 use Rattle.serve_loader.specs.declared.ends.LoaderEnd.TheVariants.{Ended}
 use Rattle.serve_loader.specs.Loads.{IsLoad, LoadsEnd, LoadsTo}
-use Rattle.serve_loader.proofs.loading.load_times.Goals as goal
+use Rattle.serve_loader.proofs.loading.Loader.load_times.Goals as goal
 
 pub loop-left-preserved : goal.loop-left-preserved
 loop-left-preserved g c =
     let i = c.loop-left.invariant in
     let told = g.F.Tree.told in
     let faults = g.F.Tree.faults in
-    let root = c.args.root.now in
+    let root = c.args.self.now.root.now in
     record {
       loads = (λ v from stop le start.
           let had = i.loads v from stop le start in
@@ -30,7 +30,7 @@ returns-in-Err-clause-loads g c =
     let i = c.loop-left.invariant in
     let told = g.F.Tree.told in
     let faults = g.F.Tree.faults in
-    let root = c.args.root.now in
+    let root = c.args.self.now.root.now in
     λ v from stop le start.
     let had = i.loads v from stop le start in
     let far : from ≤ faults c.loop-left.tree = omega (arith, le, i.later) in

@@ -3,17 +3,16 @@ use Rattle.std.proofs.Common.{◌≡◌, ℕ, List, [], ◌∷◌, ◌++◌, ref
 use Rattle.std.proofs.lemmas.List.{take-append-drop}
 use Rattle.dbus_values.specs.declared.fault.FaultKind.{FaultKind}
 use Rattle.dbus_values.specs.Next.{Seen, Whole, Partial, Bad, next_of}
-use Rattle.dbus_values.specs.Streams.{IsForm, NoneWhole, Stream}
+use Rattle.dbus_values.specs.Streams.{Follow, IsForm, NoneWhole, Stream}
 use Rattle.dbus_values.proofs.Streaming.{form_whole}
-use Rattle.connection_reader.specs.Reading.{Follow}
 
 -- more bytes at the end
-pub follow_more : (bytes : List ℕ) (messages : List Seen) (rest more : List ℕ) → Follow bytes messages rest → Follow (bytes ++ more) messages (rest ++ more)
-follow_more bytes [] rest more f = ap (λ b. b ++ more) f
-follow_more bytes (m ∷ messages) rest more f = (f.0, f.1 ++ more, f.2, ap (λ b. b ++ more) f.3 ∙ append_assoc f.0 f.1 more, follow_more f.1 messages rest more f.4)
+pub follow_bytes : (bytes : List ℕ) (messages : List Seen) (rest more : List ℕ) → Follow bytes messages rest → Follow (bytes ++ more) messages (rest ++ more)
+follow_bytes bytes [] rest more f = ap (λ b. b ++ more) f
+follow_bytes bytes (m ∷ messages) rest more f = (f.0, f.1 ++ more, f.2, ap (λ b. b ++ more) f.3 ∙ append_assoc f.0 f.1 more, follow_bytes f.1 messages rest more f.4)
 
 -- one more message
-follow_text : (bytes : List ℕ) (messages : List Seen) (rest text behind : List ℕ) (m : Seen) → Follow bytes messages rest → IsForm text m → rest ≡ text ++ behind → Follow bytes (messages ++ m ∷ []) behind
+pub follow_text : (bytes : List ℕ) (messages : List Seen) (rest text behind : List ℕ) (m : Seen) → Follow bytes messages rest → IsForm text m → rest ≡ text ++ behind → Follow bytes (messages ++ m ∷ []) behind
 follow_text bytes [] rest text behind m f form is = (text, behind, form, f ∙ is, refl)
 follow_text bytes (n ∷ messages) rest text behind m f form is = (f.0, f.1, f.2, f.3, follow_text f.1 messages rest text behind m f.4 form is)
 

@@ -1,12 +1,12 @@
 use Rattle.std.proofs.Common.{◌≤◌, ◌+◌, ◌∙◌, ℕ, suc, sym, subst, add-one, arith}
 use Rattle.serve_loader.specs.Loads.{GoesOn, IsLoad, LoadsTo}
 use Rattle.serve_loader.proofs.Going.{goes_on, load_until, loads_to}
-use Rattle.serve_loader.proofs.loading.load_again.Goals as goal
+use Rattle.serve_loader.proofs.loading.Loader.load_again.Goals as goal
 
 pub returns-clause-loads : goal.returns-clause-loads
 returns-clause-loads g c = λ v from count stop le loads.
     let told = g.F.Tree.told c.args.tree.now in
-    let root = c.args.root.now in
+    let root = c.args.self.now.root.now in
     let before = g.F.Tree.faults c.args.tree.now in
     let now = g.F.Tree.faults c.load_beside-gave.new.tree in
     let later : before ≤ now = c.load_beside-gave.ensures.later in
