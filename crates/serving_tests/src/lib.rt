@@ -12,6 +12,8 @@ mod live_connections;
 #[cfg(test)]
 mod loaders;
 #[cfg(test)]
+mod moments;
+#[cfg(test)]
 mod passes;
 #[cfg(test)]
 mod wire;

@@ -124,7 +124,7 @@ fn is_served<L: LimitsName + Send + Sync, T: TableName + Send + Sync, R: Threads
 }
 
 /// The first load: that of the tree of files.
-fn loaded(alloc: Global) -> Option<Loaded> {
+pub(crate) fn loaded(alloc: Global) -> Option<Loaded> {
     let root = Text::try_from_bytes(alloc, ROOT.as_bytes()).ok()?;
     let mut tree = tree(alloc, Vec::new(alloc)).ok()?;
     load(alloc, &mut tree, &root).ok()
