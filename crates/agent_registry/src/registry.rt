@@ -91,7 +91,9 @@ impl AgentRegistry {
         ensures items { self.new.items ≡ self.old.items }
         ensures none { self.new.staged ≡ None }
     {
-        self.staged = None;
+        if self.staged.is_some() {
+            self.staged = None;
+        }
     }
 
     /// Carries the agents on by an entry with the change that is staged, in the world that is in force after

@@ -9,7 +9,7 @@ use Rattle.authority_model.specs.declared.load.Loaded.{Loaded}
 use Rattle.authority_model.specs.Answers.{loads}
 use Rattle.authority_model.specs.Costs.{bytes_of, cost_of_entry, cost_of_load}
 use Rattle.authority_model.specs.Entering.{cost_of_item, counted_bytes}
-use Rattle.authority_model.specs.Items.{Item, paired, pair_up, is_load, items_of}
+use Rattle.authority_model.specs.Items.{paired, pair_up, is_load, items_of}
 use Rattle.authority_model.proofs.LastLoad.{loads-reverse}
 
 -- entries and the loads that they name cost what their items cost

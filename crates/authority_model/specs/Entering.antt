@@ -1,5 +1,5 @@
 -- What a thing handed in comes to in a journal that may hold so much: one more entry, or how full the journal is.
-use Rattle.std.specs.Prelude.{◌≤◌, ℕ, ◌+◌, Bool, true, false, ◌||◌, nat_le, if◌then◌else◌, List, [], ◌∷◌, Option, Some, None, length, sum_by}
+use Rattle.std.specs.Prelude.{◌≤◌, ℕ, ◌+◌, Bool, ◌||◌, nat_le, if◌then◌else◌, List, [], ◌∷◌, Option, Some, None, length, sum_by}
 use Rattle.std.specs.Option.{option_map_or}
 use Rattle.authority_model.specs.declared.journal.Item.{Item}
 use Rattle.authority_model.specs.declared.journal.Limits.{Limits}

@@ -6,6 +6,7 @@ ghost use Rattle.authority_model.specs.Reasons.{category_text, reason_text};
 
 use crate::Reason;
 use crate::cookies::push_grant_text;
+use itoa::Buffer;
 use pk_types::{Category, Text};
 use std::alloc::{AllocError, Global};
 
@@ -32,7 +33,9 @@ fn default_bytes(alloc: Global, category: Category) -> Result<Vec<u8>, AllocErro
 fn entry_bytes(alloc: Global, place: u32) -> Result<Vec<u8>, AllocError>
     ensures text { IfOk result (λ text. text.items ≡ codes "entry:" ++ decimal place) }
 {
-    Ok(format!(in alloc; "entry:{place}")?.into_bytes())
+    let mut text = Vec::from_slice(alloc, b"entry:")?;
+    text.extend_from_slice(Buffer::new().format(place).as_bytes())?;
+    Ok(text)
 }
 
 /// The text of a temporary authorization with this number.

@@ -180,7 +180,9 @@ impl ChallengeBook {
         ensures items { self.new.items ≡ self.old.items }
         ensures idle { self.new.staged ≡ None }
     {
-        self.staged = None;
+        if self.staged.is_some() {
+            self.staged = None;
+        }
     }
 
     /// Changes the challenges by what is staged for an entry. It takes no memory.

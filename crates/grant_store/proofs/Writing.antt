@@ -1,5 +1,5 @@
 -- The numbers at each subject, after those at one were written over.
-use Rattle.std.proofs.Common.{◌≡◌, ℕ, ◌<◌, Bool, true, false, cond, List, [], ◌∷◌, Option, Some, None, refl, sym, ap, ◌∙◌, subst, is_some}
+use Rattle.std.proofs.Common.{◌≡◌, ℕ, ◌<◌, Bool, true, false, cond, List, [], Option, Some, None, refl, sym, ap, ◌∙◌, subst, is_some}
 use Rattle.std.specs.Prelude.{IsSome}
 use Rattle.std.specs.Option.{option_map_or}
 use Rattle.std.specs.Map.{lookup}
@@ -11,7 +11,7 @@ use Rattle.key_index.specs.declared.keys.KeyOf.{KeyOf}
 use Rattle.key_index.specs.contracts.keys.KeyOfPartialEq.TheImpl as derived
 use Rattle.key_index.specs.contracts.keys.KeyOfEq.TheImpl.Laws.{laws-law}
 use Rattle.key_index.specs.Held.{key_held}
-use Rattle.grant_store.specs.Listed.{KeyNumbers, numbers_at, room_at, KeepsNumbers, HasRoomFor}
+use Rattle.grant_store.specs.Listed.{KeyNumbers, numbers_at, KeepsNumbers, HasRoomFor}
 
 -- this row stands at the subject of a key, and at each other what stood there
 abbrev pub Writes : KeyOf → Roomy ℕ → KeyNumbers → KeyNumbers → Type 0

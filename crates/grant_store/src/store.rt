@@ -132,7 +132,9 @@ impl GrantStore {
         ensures items { self.new.items ≡ self.old.items }
         ensures none { self.new.staged ≡ None }
     {
-        self.staged = None;
+        if self.staged.is_some() {
+            self.staged = None;
+        }
     }
 
     /// Carries the temporary authorizations on by an entry with the change that is staged, in the world that

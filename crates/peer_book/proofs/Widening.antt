@@ -1,5 +1,5 @@
 -- Room for more places: the places stay, and what counts them.
-use Rattle.std.proofs.Common.{◌≡◌, ℕ, suc, ◌+◌, ◌-◌, ◌<◌, ◌≤◌, ◌==◌, Bool, true, false, List, [], ◌∷◌, ◌++◌, refl, ap, sym, ◌∙◌, subst, Option, Some, None, cond, length, take, get_or, inl, inr, is_some, arith}
+use Rattle.std.proofs.Common.{◌≡◌, ℕ, suc, ◌+◌, ◌-◌, ◌^◌, ◌<◌, ◌≤◌, ◌==◌, Bool, true, false, List, [], ◌∷◌, ◌++◌, refl, ap, sym, ◌∙◌, subst, Option, Some, None, cond, length, take, get_or, inl, inr, is_some, arith}
 use Rattle.std.proofs.lemmas.Bool.Decides.{Decides-eqb, nat_tests}
 use Rattle.std.proofs.lemmas.Map.{lookup-none}
 use Rattle.std.proofs.lemmas.Map.Entries.{none_past_head}
@@ -145,6 +145,17 @@ can_more old new tally rest r m kept can so_far c n found = go (so_far c n found
     go : (lookup (nat_eq c) ((r, m) ∷ rest) ≡ Some n) ⊎ CanTake old c n → (lookup (nat_eq c) rest ≡ Some n) ⊎ CanTake new c n
     go (inl is) = here (c == r) refl is
     go (inr can) = inr (can_still old new c n kept can)
+
+-- a lone receiver has room
+pub can_lone : (old new : PlaceRows) (receivers : List ℕ) → length receivers ≡ 1 → ((c : ℕ) → length (places_in old c) < 2 ^ 32) → KeepsPlaces old new → CanTake new (get_or receivers 0 0) 1
+    → (c : ℕ) → CanTake new c (count_in c receivers)
+can_lone old new (r ∷ []) lone few kept can c = go (r == c) refl
+  where
+    go : (b : Bool) → (r == c) ≡ b → CanTake new c (cond b 1 0 + 0)
+    go true at = subst (λ k. CanTake new k 1) ((Decides-eqb r c).0 at) can
+    go false at = let same : length (places_in new c) ≡ length (places_in old c) = ap length (kept.same c) in let c_few = few c in record { room = omega arith; few = omega (arith, same, c_few) }
+can_lone old new [] lone few kept can c = record { room = omega (arith, lone); few = omega (arith, lone) }
+can_lone old new (r ∷ q ∷ rest) lone few kept can c = record { room = omega (arith, lone); few = omega (arith, lone) }
 
 -- the places of a row, where there is one
 abbrev pub items_of : Option (Roomy OutputPlace) → List OutputPlace

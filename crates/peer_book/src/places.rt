@@ -130,14 +130,22 @@ fn widen_row(rows: &mut PlaceRows, receiver: u32, more: u32) -> Result<(), NoMem
     }
 }
 
+/// Takes room for so many more places of a connection.
+fn widen_one(alloc: Global, rows: &mut PlaceRows, receiver: u32, more: u32) -> Result<(), NoMemory>
+    ensures kept { KeepsPlaces rows.old.entries rows.new.entries }
+    ensures ok { OnOk result (CanTake rows.new.entries receiver more) }
+{
+    add_row(alloc, rows, receiver)?;
+    widen_row(rows, receiver, more)
+}
+
 /// Takes room for the places of outputs to each connection, so many as are counted.
 fn widen_all(alloc: Global, rows: &mut PlaceRows, tally: &Tally) -> Result<(), NoMemory>
     ensures kept { KeepsPlaces rows.old.entries rows.new.entries }
     ensures ok { OnOk result ((c n : ℕ) → lookup (nat_eq c) tally.now.entries ≡ Some n → CanTake rows.new.entries c n) }
 {
     for (receiver, more) in tally.iter() {
-        add_row(alloc, rows, *receiver)?;
-        widen_row(rows, *receiver, *more)?;
+        widen_one(alloc, rows, *receiver, *more)?;
     }
     Ok(())
 }
@@ -148,6 +156,10 @@ pub fn widen(alloc: Global, rows: &mut PlaceRows, receivers: &[u32]) -> Result<(
     ensures kept { KeepsPlaces rows.old.entries rows.new.entries }
     ensures ok { OnOk result ((c : ℕ) → CanTake rows.new.entries c (count_in c receivers.now)) }
 {
+    // Nearly each entry has one output, which need not be counted.
+    if receivers.len() == 1 {
+        return widen_one(alloc, rows, receivers[0], 1);
+    }
     let tally = tally_all(alloc, receivers)?;
     widen_all(alloc, rows, &tally)
 }

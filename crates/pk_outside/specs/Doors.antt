@@ -36,13 +36,13 @@ Accepts origin before after accepted.Idle = after ≡ before
 Accepts origin before after accepted.Failed = after ≡ before
 Accepts origin before after accepted.NoMemory = after ≡ before
 
--- `Failed` comes only where the count rose.
+-- `Failed` comes only where the count rose, and any other answer leaves the count.
 abbrev pub AcceptCause : {L : Type 0} → ℕ → ℕ → Accepted L → Type 0
-AcceptCause before now (accepted.Link link) = Unit {0}
-AcceptCause before now accepted.Closed = Unit {0}
-AcceptCause before now accepted.Idle = Unit {0}
+AcceptCause before now (accepted.Link link) = now ≡ before
+AcceptCause before now accepted.Closed = now ≡ before
+AcceptCause before now accepted.Idle = now ≡ before
 AcceptCause before now accepted.Failed = Rose before now
-AcceptCause before now accepted.NoMemory = Unit {0}
+AcceptCause before now accepted.NoMemory = now ≡ before
 
 -- A call of `accept` failed; want of memory is no failure of the door.
 abbrev pub has_failed : {L : Type 0} → Accepted L → Bool

@@ -34,7 +34,8 @@ pub trait Door: Drop + Send {
     /// How often the door has failed.
     ghost faults: { Self → ℕ };
 
-    /// Waits for the next link, for about a second where none comes.
+    /// Waits for the next link, for about a second where none comes. It counts a fault exactly where it
+    /// answers `Failed`.
     fn accept(&mut self) -> Accepted<Self::Link>
         ensures links { Accepts Self.Link.origin (told self.old) (told self.new) result }
         ensures owner { owner self.new ≡ owner self.old }

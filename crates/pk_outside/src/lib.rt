@@ -4,8 +4,8 @@
 //!
 //! Each of these is a trait. Its object tells what it holds where it can, and always has a count
 //! of its faults, which never falls: a call answers `Failed` only where the count rose in that
-//! call. The kinds in memory (`memory_outside`) stand for the outside in tests; the real kinds are
-//! the trusted edge, and tell nothing of the content.
+//! call, and a door and a station leave it in any other. The kinds in memory (`memory_outside`) stand
+//! for the outside in tests; the real kinds are the trusted edge, and tell nothing of the content.
 #![tactic(auto)]
 
 mod clock;

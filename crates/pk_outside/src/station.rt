@@ -20,7 +20,7 @@ pub enum StationRefused {
 }
 
 /// Makes doors, links, files, clocks, random words and looks at processes, and takes back all but
-/// the last.
+/// the last. It counts a fault exactly where it fails, or where what comes back counted one.
 pub trait Station: Drop + Send {
     /// The doors that it makes.
     type Door: Door;

@@ -1,4 +1,4 @@
-use Rattle.std.proofs.Common.{sym, ◌∙◌}
+use Rattle.std.proofs.Common.{◌∙◌}
 use Rattle.grant_store.proofs.Writing.{no_numbers, numbers_kept, room_written}
 use Rattle.grant_store.proofs.by_key.begin.Goals as goal
 

@@ -1,6 +1,5 @@
 use Rattle.std.proofs.Common.{sym, ◌∙◌}
 use Rattle.std.proofs.lemmas.Result.{on_ok_weaker}
-use Rattle.grant_store.specs.Listed.{HasRoomFor}
 use Rattle.grant_store.proofs.Writing.{lent, numbers_there, numbers_kept, room_written}
 use Rattle.grant_store.proofs.by_key.widen.Goals as goal
 

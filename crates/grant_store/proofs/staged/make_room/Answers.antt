@@ -1,4 +1,4 @@
-use Rattle.std.proofs.Common.{refl, subst, sym}
+use Rattle.std.proofs.Common.{subst, sym}
 use Rattle.std.proofs.lemmas.Result.{IfOk-weaker}
 use Rattle.grant_store.specs.Listed.{AreListed}
 use Rattle.grant_store.proofs.Listing.{listed_along}

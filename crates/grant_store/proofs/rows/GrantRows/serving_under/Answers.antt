@@ -1,9 +1,6 @@
-use Rattle.std.proofs.Common.{◌<◌, length, sym, ◌∙◌, [], arith}
-use Rattle.std.specs.Prelude.{find}
-use Rattle.std.proofs.lemmas.List.{at_drop_all}
+use Rattle.std.proofs.Common.{arith}
 use Rattle.authority_model.specs.Keys.{key_seen}
 use Rattle.authority_model.specs.Deciding.{serves}
-use Rattle.grant_store.specs.Listed.{rows_under}
 use Rattle.grant_store.proofs.Listing.{under_hit, under_miss}
 use Rattle.grant_store.proofs.rows.GrantRows.serving_under.Goals as goal
 

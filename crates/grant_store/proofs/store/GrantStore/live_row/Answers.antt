@@ -1,4 +1,4 @@
-use Rattle.std.proofs.Common.{ℕ, List, sym, subst}
+use Rattle.std.proofs.Common.{sym, subst}
 use Rattle.authority_model.specs.declared.key.Key.{Key}
 use Rattle.authority_model.specs.Keys.{key_seen}
 use Rattle.grant_store.specs.Listed.{LeadTo, numbers_at}
