@@ -1,5 +1,7 @@
-// Agents over links in memory: what the authority and the helper's door give, and what comes of it.
+// Agents over links in memory: what the authority and the helper's door give, and what comes of it, also
+// where an object fails at a call, at each call in turn, and at two.
 use crate::doors::{Faults, NONE, TwoDoors, joined, link, output, texts, two_doors, written};
+use crate::ends::Ended;
 use crate::messages::Part;
 use memory_outside::{ByteSink, ListTree};
 use pk_outside::TreeFile;
@@ -72,6 +74,32 @@ const UNANSWERED: Row = Row {
     ..ONE
 };
 
+/// A run at whose door of the authority nobody listens.
+const UNHEARD: Row = Row {
+    shows: "nobody listens at the authority's door",
+    door_at: "1000:/nowhere",
+    status: AgentStatus::StationFault,
+    ..UNDIALLED
+};
+
+/// A run at whose helper's door nobody listens.
+const UNHELPED: Row = Row {
+    shows: "nobody listens at the helper's door",
+    helper_at: "/nowhere",
+    status: AgentStatus::StationFault,
+    ..UNANSWERED
+};
+
+/// A run whose output fails.
+const UNPRINTED: Row = Row {
+    shows: "the output fails",
+    faults: Faults { output: 1, ..NONE },
+    status: AgentStatus::WriteFault,
+    code: 127,
+    printed: "",
+    ..ONE
+};
+
 /// Runs with an object that fails.
 fn failing() -> &'static [Row] {
     &[
@@ -82,6 +110,8 @@ fn failing() -> &'static [Row] {
             status: AgentStatus::TreeFault,
             ..UNDIALLED
         },
+        UNHEARD,
+        UNHELPED,
         Row {
             shows: "a read fails",
             faults: Faults { read: 1, ..NONE },
@@ -96,21 +126,12 @@ fn failing() -> &'static [Row] {
             asked: &[Part::AuthRoot, Part::BeginLine, Part::Respond1],
             ..UNANSWERED
         },
-        Row {
-            shows: "the output fails",
-            faults: Faults { output: 1, ..NONE },
-            status: AgentStatus::WriteFault,
-            code: 127,
-            printed: "",
-            ..ONE
-        },
+        UNPRINTED,
         Row {
             shows: "the output fails inside the line",
             faults: Faults { output: 2, ..NONE },
-            status: AgentStatus::WriteFault,
-            code: 127,
             printed: "a.self",
-            ..ONE
+            ..UNPRINTED
         },
     ]
 }
@@ -151,7 +172,7 @@ fn words(alloc: Global, row: &Row) -> Result<TextList, NoMemory> {
 /// A station with the links of a row.
 fn station(alloc: Global, row: &Row) -> Result<TwoDoors, NoMemory> {
     let door = link(alloc, row.door, 50, row.faults)?;
-    let helper = link(alloc, row.helper, 50, NONE)?;
+    let helper = link(alloc, row.helper, 50, row.faults.of_helper())?;
     Ok(two_doors(door, Some(helper)))
 }
 
@@ -207,6 +228,119 @@ fn difference(alloc: Global, row: &Row) -> Result<&'static str, NoMemory> {
 fn failing_objects_stop_an_agent(rt: HostRuntime) -> Result<(), Fail> {
     for row in failing() {
         assert_eq!(rt; difference(rt.alloc(), row)?, "", "{}", row.shows);
+    }
+    Ok(())
+}
+
+/// How the run of an agent ends at a station.
+fn end_at(
+    alloc: Global,
+    row: &Row,
+    station: &mut TwoDoors,
+    output: &mut ByteSink,
+) -> Result<Ended, NoMemory> {
+    let status = run(alloc, row, station, output)?;
+    let text = format!(in alloc; "{status:?}")?;
+    Ended::new(alloc, text, status.code(), output, station)
+}
+
+/// How the agent ends with these faults.
+fn ended(alloc: Global, faults: Faults) -> Result<Ended, NoMemory> {
+    let row = Row { faults, ..ONE };
+    let mut output = output(alloc, faults.output)?;
+    let mut station = station(alloc, &row)?;
+    end_at(alloc, &row, &mut station, &mut output)
+}
+
+/// The faults at this call of each kind, and how many calls of the kind are made: the authority sends 349
+/// bytes and the helper's door 61, in pieces of 50, and a handshake takes two writes.
+fn kinds(call: u64) -> [(Faults, u64); 4] {
+    [
+        (Faults { read: call, ..NONE }, 7),
+        (
+            Faults {
+                write: call,
+                ..NONE
+            },
+            4,
+        ),
+        (
+            Faults {
+                helper_read: call,
+                ..NONE
+            },
+            2,
+        ),
+        (
+            Faults {
+                helper_write: call,
+                ..NONE
+            },
+            3,
+        ),
+    ]
+}
+
+/// Whether the agent is stopped by these faults, where one of their calls is made, and else is whole.
+fn is_stopped(alloc: Global, faults: Faults, is_made: bool) -> Result<bool, NoMemory> {
+    let whole = ended(alloc, NONE)?;
+    let ended = ended(alloc, faults)?;
+    Ok(if is_made {
+        ended.is_stopped(&whole)
+    } else {
+        ended.is_alike(&whole)
+    })
+}
+
+#[test]
+fn each_failing_call_stops_an_agent(rt: HostRuntime) -> Result<(), Fail> {
+    for call in 1..10u64 {
+        for (kind, (faults, made)) in kinds(call).iter().enumerate() {
+            let is_so = is_stopped(rt.alloc(), *faults, call <= *made)?;
+            assert!(rt; is_so, "call {call} of kind {kind}");
+        }
+    }
+    Ok(())
+}
+
+/// Two faults of different kinds, at these calls.
+fn pairs(first: u64, second: u64) -> [[Faults; 2]; 4] {
+    let [(read, _), (write, _), (helper_read, _), _] = kinds(first);
+    let [_, (other_write, _), _, (helper_write, _)] = kinds(second);
+    [
+        [read, other_write],
+        [helper_read, helper_write],
+        [read, helper_write],
+        [write, helper_write],
+    ]
+}
+
+/// Whether the agent ends with both faults as with one of them alone.
+fn ends_as_one(alloc: Global, pair: &[Faults; 2]) -> Result<bool, NoMemory> {
+    let [one, other] = *pair;
+    let both = ended(alloc, one.beside(other))?;
+    let one = ended(alloc, one)?;
+    let other = ended(alloc, other)?;
+    Ok(both.is_one_of(&one, &other))
+}
+
+/// The first of these pairs with which it does not, by its place.
+fn odd_pair(alloc: Global, first: u64, second: u64) -> Result<Option<usize>, NoMemory> {
+    for (place, pair) in pairs(first, second).iter().enumerate() {
+        if !ends_as_one(alloc, pair)? {
+            return Ok(Some(place));
+        }
+    }
+    Ok(None)
+}
+
+#[test]
+fn two_failing_calls_stop_an_agent_as_one(rt: HostRuntime) -> Result<(), Fail> {
+    for first in 1..9u64 {
+        for second in 1..6u64 {
+            let odd = odd_pair(rt.alloc(), first, second)?;
+            assert_eq!(rt; odd, None, "at calls {first} and {second}");
+        }
     }
     Ok(())
 }

@@ -1,5 +1,6 @@
-// Checks over a link in memory that gives a byte in each read, and objects that fail at a call.
+// Checks over a link in memory, with objects that fail at a call, at each call in turn, and at two.
 use crate::doors::{Faults, NONE, TwoDoors, joined, link, output, texts, two_doors, written};
+use crate::ends::Ended;
 use crate::messages::Part;
 use memory_outside::ByteSink;
 use pk_types::NoMemory;
@@ -52,10 +53,27 @@ const STOPPED: Row = Row {
     ..YES
 };
 
+/// A check at whose door nobody listens.
+const UNHEARD: Row = Row {
+    shows: "nobody listens at the door",
+    words: &[
+        "--door",
+        "1000:/nowhere",
+        "--action-id",
+        "a.yes",
+        "--process",
+        "51,8",
+    ],
+    status: CheckStatus::StationFault,
+    sent: &[],
+    ..STOPPED
+};
+
 /// Checks with an object that fails.
 fn failing() -> &'static [Row] {
     &[
         YES,
+        UNHEARD,
         Row {
             shows: "the read fails",
             faults: Faults { read: 1, ..NONE },
@@ -140,6 +158,76 @@ fn difference(alloc: Global, row: &Row) -> Result<&'static str, NoMemory> {
 fn failing_objects_have_their_status(rt: HostRuntime) -> Result<(), Fail> {
     for row in failing() {
         assert_eq!(rt; difference(rt.alloc(), row)?, "", "{}", row.shows);
+    }
+    Ok(())
+}
+
+/// How many reads and writes a check makes: pieces of 50 bytes of the 133 that the server sends, and the
+/// handshake by two writes before the call.
+const READS: u64 = 3;
+
+const WRITES: u64 = 3;
+
+/// How the check ends at a station.
+fn end_at(alloc: Global, station: &mut TwoDoors, output: &mut ByteSink) -> Result<Ended, NoMemory> {
+    let status = check(alloc, &YES, station, output)?;
+    let text = format!(in alloc; "{status:?}")?;
+    Ended::new(alloc, text, status.code(), output, station)
+}
+
+/// How the check ends with these faults, where its link gives 50 bytes in a read.
+fn ended(alloc: Global, faults: Faults) -> Result<Ended, NoMemory> {
+    let mut output = output(alloc, faults.output)?;
+    let door = link(alloc, YES.server, 50, faults)?;
+    let mut station = two_doors(door, None);
+    end_at(alloc, &mut station, &mut output)
+}
+
+/// Whether the check is stopped by these faults, where one of their calls is made, and else is whole.
+fn is_stopped(alloc: Global, faults: Faults, is_made: bool) -> Result<bool, NoMemory> {
+    let whole = ended(alloc, NONE)?;
+    let ended = ended(alloc, faults)?;
+    Ok(if is_made {
+        ended.is_stopped(&whole)
+    } else {
+        ended.is_alike(&whole)
+    })
+}
+
+#[test]
+fn each_failing_call_stops_a_check(rt: HostRuntime) -> Result<(), Fail> {
+    for call in 1..8u64 {
+        let read = Faults { read: call, ..NONE };
+        assert!(rt; is_stopped(rt.alloc(), read, call <= READS)?, "read {call}");
+        let write = Faults {
+            write: call,
+            ..NONE
+        };
+        assert!(rt;
+            is_stopped(rt.alloc(), write, call <= WRITES)?,
+            "write {call}"
+        );
+    }
+    Ok(())
+}
+
+/// Whether the check with a read and a write that fail ends as with one of them alone.
+fn ends_as_one(alloc: Global, read: u64, write: u64) -> Result<bool, NoMemory> {
+    let read = Faults { read, ..NONE };
+    let write = Faults { write, ..NONE };
+    let both = ended(alloc, read.beside(write))?;
+    let one = ended(alloc, read)?;
+    let other = ended(alloc, write)?;
+    Ok(both.is_one_of(&one, &other))
+}
+
+#[test]
+fn two_failing_calls_stop_a_check_as_one(rt: HostRuntime) -> Result<(), Fail> {
+    for read in 1..5u64 {
+        for write in 1..5u64 {
+            let is_so = ends_as_one(rt.alloc(), read, write)?;
+            assert!(rt; is_so, "read {read} and write {write}");
+        }
     }
     Ok(())
 }

@@ -13,12 +13,14 @@ use pk_types::{List, NoMemory, Text, TextList};
 use std::alloc::Global;
 use test_values::text;
 
-/// The numbers of the calls that are to fail: of the reads and writes of the first link, of the writes
-/// of the output, and of the reads of the tree. None has the number 0.
+/// The numbers of the calls that are to fail: of the reads and writes of the first link, of those of the
+/// helper's, of the writes of the output, and of the reads of the tree. None has the number 0.
 #[derive(Clone, Copy)]
 pub struct Faults {
     pub read: u64,
     pub write: u64,
+    pub helper_read: u64,
+    pub helper_write: u64,
     pub output: u64,
     pub tree: u64,
 }
@@ -27,9 +29,34 @@ pub struct Faults {
 pub const NONE: Faults = Faults {
     read: 0,
     write: 0,
+    helper_read: 0,
+    helper_write: 0,
     output: 0,
     tree: 0,
 };
+
+impl Faults {
+    /// Those of the helper's link, as those of a first one.
+    pub fn of_helper(self) -> Faults {
+        Faults {
+            read: self.helper_read,
+            write: self.helper_write,
+            ..NONE
+        }
+    }
+
+    /// These calls and those.
+    pub fn beside(self, other: Faults) -> Faults {
+        Faults {
+            read: self.read.max(other.read),
+            write: self.write.max(other.write),
+            helper_read: self.helper_read.max(other.helper_read),
+            helper_write: self.helper_write.max(other.helper_write),
+            output: self.output.max(other.output),
+            tree: self.tree.max(other.tree),
+        }
+    }
+}
 
 /// The most bytes of a link or of the output.
 const ROOM: usize = 4096;

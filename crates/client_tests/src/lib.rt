@@ -8,4 +8,6 @@ mod checks;
 #[cfg(test)]
 mod doors;
 #[cfg(test)]
+mod ends;
+#[cfg(test)]
 mod messages;
