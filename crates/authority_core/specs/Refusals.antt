@@ -1,5 +1,5 @@
 -- Why an authority refuses what is handed in: the journal is full, and this is how full; or memory was refused. What was handed in comes back.
-use Rattle.std.specs.Prelude.{◌≡◌, ⊤, ℕ, length, true, false}
+use Rattle.std.specs.Prelude.{◌≡◌, ⊤, ℕ, Option, Some, None, length, true, false}
 use Rattle.authority_model.specs.declared.event.Event.{Event}
 use Rattle.authority_model.specs.declared.load.Loaded.{Loaded}
 use Rattle.authority_model.specs.Entering.{counted_bytes, is_full}
@@ -12,6 +12,8 @@ use Rattle.authority_core.specs.declared.authority.StepRefused.{StepRefused}
 use Rattle.authority_core.specs.declared.authority.StepRefused.TheVariants as step_refused
 use Rattle.authority_core.specs.declared.authority.UnlistRefused.{UnlistRefused}
 use Rattle.authority_core.specs.declared.authority.UnlistRefused.TheVariants as unlist_refused
+use Rattle.authority_core.specs.declared.halt.Halt.{Halt}
+use Rattle.authority_core.specs.declared.halt.Halt.TheVariants.{Full, NoMemory}
 use Rattle.authority_core.specs.Journal.{Journal}
 use Rattle.authority_core.specs.Unlisting.{lists_process}
 
@@ -21,23 +23,59 @@ pub record IsFullAt (journal : Journal) (entries bytes : ℕ) : Type 0 where
   pub entries_are : entries ≡ length (items_of journal.history)
   pub bytes_are : bytes ≡ counted_bytes (items_of journal.history)
 
+-- nothing was added to a journal: it is this full, or memory was refused
+abbrev pub IsHalted : Journal → Halt → Type 0
+IsHalted journal (Full full) = IsFullAt journal full.entries full.bytes
+IsHalted journal NoMemory = ⊤
+
+-- why an event was refused
+abbrev pub halt_of_step : StepRefused → Halt
+halt_of_step (step_refused.JournalFull entries bytes event) = Full (record { entries = entries; bytes = bytes })
+halt_of_step (step_refused.NoMemory event) = NoMemory
+
+-- the event that comes back
+abbrev pub event_back : StepRefused → Event
+event_back (step_refused.JournalFull entries bytes event) = event
+event_back (step_refused.NoMemory event) = event
+
+-- why a load was refused
+abbrev pub halt_of_load : LoadStepRefused → Halt
+halt_of_load (load_refused.JournalFull entries bytes loaded) = Full (record { entries = entries; bytes = bytes })
+halt_of_load (load_refused.NoMemory loaded) = NoMemory
+
+-- the load that comes back
+abbrev pub loaded_back : LoadStepRefused → Loaded
+loaded_back (load_refused.JournalFull entries bytes loaded) = loaded
+loaded_back (load_refused.NoMemory loaded) = loaded
+
+-- why a Collect was refused
+abbrev pub halt_of_collect : CollectStepRefused → Halt
+halt_of_collect (collect_refused.JournalFull entries bytes) = Full (record { entries = entries; bytes = bytes })
+halt_of_collect collect_refused.NoMemory = NoMemory
+
+-- why the last load was not added without a process that it lists
+abbrev pub halt_of_unlist : UnlistRefused → Option Halt
+halt_of_unlist unlist_refused.NotListed = None
+halt_of_unlist (unlist_refused.JournalFull entries bytes) = Some (Full (record { entries = entries; bytes = bytes }))
+halt_of_unlist unlist_refused.NoMemory = Some NoMemory
+
 -- an event was refused
 abbrev pub IsStepRefused : Journal → Event → StepRefused → Type 0
-IsStepRefused journal event (step_refused.JournalFull entries bytes back) = IsFullAt journal entries bytes × (back ≡ event)
-IsStepRefused journal event (step_refused.NoMemory back) = back ≡ event
+IsStepRefused journal event refused = IsHalted journal (halt_of_step refused) × (event_back refused ≡ event)
 
 -- a load was refused
 abbrev pub IsLoadRefused : Journal → Loaded → LoadStepRefused → Type 0
-IsLoadRefused journal loaded (load_refused.JournalFull entries bytes back) = IsFullAt journal entries bytes × (back ≡ loaded)
-IsLoadRefused journal loaded (load_refused.NoMemory back) = back ≡ loaded
+IsLoadRefused journal loaded refused = IsHalted journal (halt_of_load refused) × (loaded_back refused ≡ loaded)
 
 -- a Collect was refused
 abbrev pub IsCollectRefused : Journal → CollectStepRefused → Type 0
-IsCollectRefused journal (collect_refused.JournalFull entries bytes) = IsFullAt journal entries bytes
-IsCollectRefused journal collect_refused.NoMemory = ⊤
+IsCollectRefused journal refused = IsHalted journal (halt_of_collect refused)
 
--- a process was not taken out of the last load: this one doesn't list it, or the load without it was refused
+-- no load without a process was added: the last one doesn't list it, or it does and the journal halted
+abbrev pub IsNoneUnlisted : Journal → ℕ → ℕ → Option Halt → Type 0
+IsNoneUnlisted journal pid start None = lists_process (loaded_of (items_of journal.history)) pid start ≡ false
+IsNoneUnlisted journal pid start (Some halt) = IsHalted journal halt × (lists_process (loaded_of (items_of journal.history)) pid start ≡ true)
+
+-- a process was not taken out of the last load
 abbrev pub IsUnlistRefused : Journal → ℕ → ℕ → UnlistRefused → Type 0
-IsUnlistRefused journal pid start unlist_refused.NotListed = lists_process (loaded_of (items_of journal.history)) pid start ≡ false
-IsUnlistRefused journal pid start (unlist_refused.JournalFull entries bytes) = IsFullAt journal entries bytes × (lists_process (loaded_of (items_of journal.history)) pid start ≡ true)
-IsUnlistRefused journal pid start unlist_refused.NoMemory = lists_process (loaded_of (items_of journal.history)) pid start ≡ true
+IsUnlistRefused journal pid start refused = IsNoneUnlisted journal pid start (halt_of_unlist refused)

@@ -15,6 +15,7 @@ ghost use Rattle.authority_core.specs.Unlisting.{lists_process, unlisted};
 
 use crate::collecting::{Batch, CollectStepRefused, batch_of, output_to};
 use crate::entering::{enter, enter_collect, enter_load};
+use crate::halt::{Fullness, Halt};
 use crate::unlisting::without_process;
 use authority_desk::Desk;
 use authority_model::{Decision, Entry, Event, History, Limits, Loaded, Output};
@@ -39,6 +40,25 @@ pub enum StepRefused {
     },
 }
 
+impl StepRefused {
+    ghost use Rattle.authority_core.specs.Refusals.{event_back, halt_of_step};
+
+    /// Why nothing was added, and the event that comes back.
+    pub fn into_parts(self) -> (Halt, Event)
+        ensures halt { result.0 ≡ halt_of_step self }
+        ensures event { result.1 ≡ event_back self }
+    {
+        match self {
+            StepRefused::JournalFull {
+                entries,
+                bytes,
+                event,
+            } => (Halt::Full(Fullness { entries, bytes }), event),
+            StepRefused::NoMemory { event } => (Halt::NoMemory, event),
+        }
+    }
+}
+
 /// Why a load was refused. It comes back, and nothing has changed.
 #[derive(Drop)]
 pub enum LoadStepRefused {
@@ -53,6 +73,25 @@ pub enum LoadStepRefused {
     },
 }
 
+impl LoadStepRefused {
+    ghost use Rattle.authority_core.specs.Refusals.{halt_of_load, loaded_back};
+
+    /// Why nothing was added, and the load that comes back.
+    pub fn into_parts(self) -> (Halt, Loaded)
+        ensures halt { result.0 ≡ halt_of_load self }
+        ensures loaded { result.1 ≡ loaded_back self }
+    {
+        match self {
+            LoadStepRefused::JournalFull {
+                entries,
+                bytes,
+                loaded,
+            } => (Halt::Full(Fullness { entries, bytes }), loaded),
+            LoadStepRefused::NoMemory { loaded } => (Halt::NoMemory, loaded),
+        }
+    }
+}
+
 /// Why no load without a process was added. Nothing has changed.
 #[derive(Clone, Copy, Debug, PartialEq, Eq)]
 pub enum UnlistRefused {
@@ -61,6 +100,24 @@ pub enum UnlistRefused {
     /// The journal has reached its limit of entries or of bytes. It has this many.
     JournalFull { entries: u64, bytes: u64 },
     NoMemory,
+}
+
+impl UnlistRefused {
+    ghost use Rattle.authority_core.specs.Refusals.{halt_of_unlist};
+
+    /// Why the load was not added, and `None` exactly where the last one does not list the process.
+    pub fn halt(self) -> Option<Halt>
+        ensures halt { result ≡ halt_of_unlist self }
+    {
+        match self {
+            UnlistRefused::NotListed => None,
+            UnlistRefused::JournalFull { entries, bytes } => Some(Halt::Full(Fullness {
+                entries,
+                bytes,
+            })),
+            UnlistRefused::NoMemory => Some(Halt::NoMemory),
+        }
+    }
 }
 
 /// The authority on one thread. It is seen as its journal, which is legal, and its limits.

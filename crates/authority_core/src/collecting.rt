@@ -9,6 +9,7 @@ ghost use Rattle.authority_core.specs.Collecting.{numbered_output};
 ghost use Rattle.pk_types.specs.declared.decimals.TheConstants.{MAX_NUMBER};
 
 use crate::copies::copy_of;
+use crate::halt::{Fullness, Halt};
 use authority_model::{Answer, History, Loaded, LoadedList, Message, Output, OutputList};
 use peer_book::PeerBook;
 use pk_types::{List, NoMemory, TryCopy};
@@ -33,6 +34,23 @@ pub enum CollectStepRefused {
     /// The journal has reached its limit of entries or of bytes. It has this many.
     JournalFull { entries: u64, bytes: u64 },
     NoMemory,
+}
+
+impl CollectStepRefused {
+    ghost use Rattle.authority_core.specs.Refusals.{halt_of_collect};
+
+    /// Why nothing was added.
+    pub fn halt(self) -> Halt
+        ensures halt { result ≡ halt_of_collect self }
+    {
+        match self {
+            CollectStepRefused::JournalFull { entries, bytes } => Halt::Full(Fullness {
+                entries,
+                bytes,
+            }),
+            CollectStepRefused::NoMemory => Halt::NoMemory,
+        }
+    }
 }
 
 /// The output of a journal that has this number among those to a connection, counted from 1, and

@@ -10,8 +10,10 @@ mod authority;
 mod collecting;
 mod copies;
 mod entering;
+mod halt;
 mod unlisting;
 
 pub use authority::{Authority, LoadStepRefused, StepRefused, UnlistRefused};
 pub use authority_model::Limits;
 pub use collecting::{Batch, CollectStepRefused};
+pub use halt::{Fullness, Halt};

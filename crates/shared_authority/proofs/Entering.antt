@@ -4,7 +4,6 @@ use Rattle.std.specs.Prelude.{IsSome, nat_lt}
 use Rattle.std.proofs.lemmas.Bool.Decides.{nat_tests}
 use Rattle.std.proofs.lemmas.List.{length-drop, reverse-append}
 use Rattle.authority_core.specs.declared.collecting.Batch.{Batch}
-use Rattle.authority_core.specs.Unlisting.{unlisted}
 use Rattle.authority_model.specs.Items.{loaded_of, sent}
 use Rattle.authority_model.specs.Peers.{departed}
 use Rattle.authority_model.specs.Sent.{sent_to, collected, batch}

@@ -5,6 +5,8 @@ use Rattle.authority_model.specs.declared.journal.Item.{Item}
 use Rattle.authority_model.specs.declared.journal.Limits.{Limits}
 use Rattle.authority_model.specs.declared.load.Loaded.{Loaded}
 use Rattle.authority_core.specs.declared.collecting.Batch.{Batch}
+use Rattle.authority_core.specs.declared.halt.Halt.{Halt}
+use Rattle.authority_core.specs.declared.halt.Halt.TheVariants.{Full, NoMemory}
 use Rattle.authority_core.specs.Unlisting.{lists_process, unlisted}
 use Rattle.authority_laws.specs.Batches.{IsBatch, collect_given}
 use Rattle.authority_model.specs.Entering.{is_full}
@@ -16,7 +18,7 @@ use Rattle.shared_authority.specs.declared.operation.Op.TheVariants.{Step, Load,
 use Rattle.shared_authority.specs.declared.operation.Reply.{Reply}
 use Rattle.shared_authority.specs.declared.operation.Reply.TheVariants.{At, Batch as Batched}
 use Rattle.shared_authority.specs.declared.operation.Refusal.{Refusal}
-use Rattle.shared_authority.specs.declared.operation.Refusal.TheVariants.{JournalFull, NoMemory, NotListed}
+use Rattle.shared_authority.specs.declared.operation.Refusal.TheVariants.{Halted, NotListed}
 use Rattle.history_lock.specs.declared.refused.CallRefused.{CallRefused}
 use Rattle.history_lock.specs.declared.refused.CallRefused.TheVariants.{Ended, Machine}
 use Rattle.shared_authority.specs.Journals.{IsFullWith, past_of}
@@ -46,6 +48,11 @@ abbrev pub handed_back : CallRefused Op Refusal → Op
 handed_back (Ended cause op) = op
 handed_back (Machine refusal op) = op
 
+-- why a process was not taken out of the last load: nothing was added to the journal, or this load doesn't list it
+abbrev pub refusal_of : Option Halt → Refusal
+refusal_of (Some halt) = Halted halt
+refusal_of None = NotListed
+
 -- A connection's operation may be applied: an event is not a load and not a Collect, and a moment is at most 2^62. A Collect may be applied where there is something to collect, or where the other connection has departed.
 abbrev pub IsReady : ℕ → Op → List Item → Type 0
 IsReady n (Step moment salt event) list = IsStepped event × (moment ≤ 2 ^ 62)
@@ -74,16 +81,19 @@ pub record GivesWithin (limits : Limits) (n : ℕ) (op : Op) (list : List Item) 
   pub gives : Gives n op list i reply
   pub room : is_full limits (past_of list) ≡ false
 
--- The journal refuses what would be entered: it is full, or memory was refused.
+-- Nothing is added to the journal: it is full, or memory was refused.
+abbrev pub Halts : Limits → List Item → Halt → Type 0
+Halts limits list (Full full) = IsFullWith limits list full.entries full.bytes
+Halts limits list NoMemory = ⊤
+
+-- The journal refuses what would be entered.
 abbrev pub RefusesAny : Limits → List Item → Refusal → Type 0
-RefusesAny limits list (JournalFull entries bytes) = IsFullWith limits list entries bytes
-RefusesAny limits list NoMemory = ⊤
+RefusesAny limits list (Halted halt) = Halts limits list halt
 RefusesAny limits list NotListed = ⊥
 
 -- An Unlist is refused: the last load doesn't list the process, or it does and the journal refuses.
 abbrev pub RefusesUnlist : Limits → ℕ → ℕ → List Item → Refusal → Type 0
-RefusesUnlist limits pid start list (JournalFull entries bytes) = IsFullWith limits list entries bytes × (lists_process (loaded_of (past_of list)) pid start ≡ true)
-RefusesUnlist limits pid start list NoMemory = lists_process (loaded_of (past_of list)) pid start ≡ true
+RefusesUnlist limits pid start list (Halted halt) = Halts limits list halt × (lists_process (loaded_of (past_of list)) pid start ≡ true)
 RefusesUnlist limits pid start list NotListed = lists_process (loaded_of (past_of list)) pid start ≡ false
 
 -- An operation is refused.

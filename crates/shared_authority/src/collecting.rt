@@ -8,7 +8,7 @@ ghost use Rattle.shared_authority.specs.Machines.{batch_in};
 ghost use Rattle.shared_authority.specs.Passes.{CalledNow, CollectIsRefused, CollectsNow, HadRoom, Tells};
 
 use crate::operation::{Op, Refusal, Reply};
-use authority_core::Batch;
+use authority_core::{Batch, Fullness, Halt};
 use history_lock::{CallRefused, EndCause};
 
 /// What was collected.
@@ -84,11 +84,10 @@ pub(crate) fn collected_or_refused(
         Err(CallRefused::Machine { refusal, op }) => {
             drop(op);
             match refusal {
-                Refusal::JournalFull { entries, bytes } => Err(CollectRefused::JournalFull {
-                    entries,
-                    bytes,
-                }),
-                Refusal::NoMemory => Err(CollectRefused::NoMemory),
+                Refusal::Halted(Halt::Full(Fullness { entries, bytes })) => {
+                    Err(CollectRefused::JournalFull { entries, bytes })
+                }
+                Refusal::Halted(Halt::NoMemory) => Err(CollectRefused::NoMemory),
                 // Only an Unlist is refused so.
                 Refusal::NotListed => Err(CollectRefused::NoMemory),
             }

@@ -3,11 +3,12 @@ ghost use Rattle.std.specs.Prelude.{◌≡◌, ◌≤◌, [], length};
 ghost use Rattle.authority_model.specs.Entering.{AreAllowed};
 ghost use Rattle.authority_model.specs.declared.journal.TheConstants.{MAX_ENTRIES};
 ghost use Rattle.authority_laws.specs.Batches.{in_order};
-ghost use Rattle.shared_authority.specs.Handing.{op_of_step, refusal_of_step, op_of_load, refusal_of_load, refusal_of_collect, refusal_of_unlist};
+ghost use Rattle.authority_core.specs.Refusals.{halt_of_unlist};
+ghost use Rattle.shared_authority.specs.Machines.{refusal_of};
 
 use crate::operation::{Op, Refusal, Reply};
 use crate::waking::{others_woken_by, woken_by};
-use authority_core::{Authority, CollectStepRefused, LoadStepRefused, StepRefused, UnlistRefused};
+use authority_core::{Authority, UnlistRefused};
 use authority_model::Item;
 use history_lock::{Machine, Woken};
 use std::marker::{Brand, PhantomData};
@@ -100,11 +101,22 @@ impl<L: LimitsName> Machine for Kept<L> {
                 event,
             } => match self.authority.step(caller, moment, salt, event) {
                 Ok(place) => Ok(Reply::At(place)),
-                Err(refused) => Err(hand_back_step(moment, salt, refused)),
+                Err(refused) => {
+                    let (halt, event) = refused.into_parts();
+                    let back = Op::Step {
+                        moment,
+                        salt,
+                        event,
+                    };
+                    Err((Refusal::Halted(halt), back))
+                }
             },
             Op::Load { moment, loaded } => match self.authority.load(caller, moment, loaded) {
                 Ok(place) => Ok(Reply::At(place)),
-                Err(refused) => Err(hand_back_load(moment, refused)),
+                Err(refused) => {
+                    let (halt, loaded) = refused.into_parts();
+                    Err((Refusal::Halted(halt), Op::Load { moment, loaded }))
+                }
             },
             Op::Unlist { moment, pid, start } => {
                 match self.authority.unlist(caller, moment, pid, start) {
@@ -117,7 +129,7 @@ impl<L: LimitsName> Machine for Kept<L> {
             }
             Op::Collect { of } => match self.authority.collect(caller, of) {
                 Ok(batch) => Ok(Reply::Batch(batch)),
-                Err(refused) => Err((refusal_of(refused), Op::Collect { of })),
+                Err(refused) => Err((Refusal::Halted(refused.halt()), Op::Collect { of })),
             },
         }
     }
@@ -167,71 +179,12 @@ impl<L: LimitsName> Machine for Kept<L> {
     ghost lasts = { fits_lasts L.limits };
 }
 
-/// Why a step was refused, and the operation that comes back.
-fn hand_back_step(moment: u64, salt: u128, refused: StepRefused) -> (Refusal, Op)
-    ensures { result ≡ (refusal_of_step refused, op_of_step moment salt refused) }
-{
-    match refused {
-        StepRefused::JournalFull {
-            entries,
-            bytes,
-            event,
-        } => (
-            Refusal::JournalFull { entries, bytes },
-            Op::Step {
-                moment,
-                salt,
-                event,
-            },
-        ),
-        StepRefused::NoMemory { event } => (
-            Refusal::NoMemory,
-            Op::Step {
-                moment,
-                salt,
-                event,
-            },
-        ),
-    }
-}
-
-/// Why a load was refused, and the operation that comes back.
-fn hand_back_load(moment: u64, refused: LoadStepRefused) -> (Refusal, Op)
-    ensures { result ≡ (refusal_of_load refused, op_of_load moment refused) }
-{
-    match refused {
-        LoadStepRefused::JournalFull {
-            entries,
-            bytes,
-            loaded,
-        } => (
-            Refusal::JournalFull { entries, bytes },
-            Op::Load { moment, loaded },
-        ),
-        LoadStepRefused::NoMemory { loaded } => (Refusal::NoMemory, Op::Load { moment, loaded }),
-    }
-}
-
-/// Why a Collect was refused.
-fn refusal_of(refused: CollectStepRefused) -> Refusal
-    ensures { result ≡ refusal_of_collect refused }
-{
-    match refused {
-        CollectStepRefused::JournalFull { entries, bytes } => Refusal::JournalFull {
-            entries,
-            bytes,
-        },
-        CollectStepRefused::NoMemory => Refusal::NoMemory,
-    }
-}
-
 /// Why a process was not taken out of the last load.
 fn unlist_refusal(refused: UnlistRefused) -> Refusal
-    ensures { result ≡ refusal_of_unlist refused }
+    ensures { result ≡ refusal_of (halt_of_unlist refused) }
 {
-    match refused {
-        UnlistRefused::NotListed => Refusal::NotListed,
-        UnlistRefused::JournalFull { entries, bytes } => Refusal::JournalFull { entries, bytes },
-        UnlistRefused::NoMemory => Refusal::NoMemory,
+    match refused.halt() {
+        Some(halt) => Refusal::Halted(halt),
+        None => Refusal::NotListed,
     }
 }

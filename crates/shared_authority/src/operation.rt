@@ -2,7 +2,7 @@
 ghost use Rattle.std.specs.Prelude.{◌≡◌, Some, IsSome};
 ghost use Rattle.shared_authority.specs.Machines.{batch_in, event_in, loaded_in, place_in};
 
-use authority_core::Batch;
+use authority_core::{Batch, Halt};
 use authority_model::{Event, Loaded};
 
 /// What a connection asks of the authority.
@@ -114,9 +114,8 @@ impl Reply {
 /// Why the authority refuses.
 #[derive(Clone, Copy, Debug, PartialEq, Eq)]
 pub enum Refusal {
-    /// The journal has reached its limit of entries or of bytes. It has this many.
-    JournalFull { entries: u64, bytes: u64 },
-    NoMemory,
+    /// The journal is full, or memory was refused.
+    Halted(Halt),
     /// The last load does not list the process that was to be taken out of it.
     NotListed,
 }

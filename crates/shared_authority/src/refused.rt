@@ -7,11 +7,12 @@ ghost use Rattle.authority_model.specs.declared.journal.Item.{Item};
 ghost use Rattle.authority_model.specs.declared.journal.Limits.{Limits};
 ghost use Rattle.authority_model.specs.declared.load.Loaded.{Loaded};
 ghost use Rattle.shared_authority.specs.Journals.{IsJournal, Fits, caller_of};
-ghost use Rattle.shared_authority.specs.Machines.{Refuses, event_in, handed_back};
+ghost use Rattle.shared_authority.specs.Machines.{Refuses, event_in, handed_back, loaded_in};
 ghost use Rattle.shared_authority.specs.declared.refused.SubmitUnlistRefused.TheVariants as unlist_refused;
 ghost use Rattle.shared_authority.specs.Passes.{SubmitIsRefused, SubmitLoadIsRefused, SubmitUnlistIsRefused};
 
 use crate::operation::{Op, Refusal};
+use authority_core::{Fullness, Halt};
 use authority_model::{Event, Loaded};
 use history_lock::{CallRefused, EndCause};
 
@@ -70,12 +71,14 @@ pub(crate) fn submit_refused(refused: CallRefused<Op, Refusal>) -> SubmitRefused
         CallRefused::Machine { refusal, op } => {
             let event = op.into_event();
             match refusal {
-                Refusal::JournalFull { entries, bytes } => SubmitRefused::JournalFull {
-                    entries,
-                    bytes,
-                    event,
-                },
-                Refusal::NoMemory => SubmitRefused::NoMemory { event },
+                Refusal::Halted(Halt::Full(Fullness { entries, bytes })) => {
+                    SubmitRefused::JournalFull {
+                        entries,
+                        bytes,
+                        event,
+                    }
+                }
+                Refusal::Halted(Halt::NoMemory) => SubmitRefused::NoMemory { event },
                 // Only an Unlist is refused so.
                 Refusal::NotListed => SubmitRefused::NoMemory { event },
             }
@@ -119,6 +122,36 @@ impl SubmitLoadRefused {
                 bytes: *bytes,
             },
             SubmitLoadRefused::NoMemory { loaded: _ } => EndCause::NoMemory,
+        }
+    }
+}
+
+/// Why the lock refused a load, which comes back.
+pub(crate) fn load_refused(refused: CallRefused<Op, Refusal>) -> SubmitLoadRefused
+    requires { IsSome (loaded_in (handed_back refused)) }
+    ensures { (limits : Limits) (v w : Known Item) (moment : ℕ) (loaded : Loaded)
+        → Refused caller_of IsJournal (λ n op list refusal. Refuses limits op list refusal) (Fits limits) v (Op.Load moment loaded) refused w
+        → SubmitLoadIsRefused limits v loaded result w }
+{
+    match refused {
+        CallRefused::Ended { cause, op } => {
+            let loaded = op.into_loaded();
+            SubmitLoadRefused::Ended { cause, loaded }
+        }
+        CallRefused::Machine { refusal, op } => {
+            let loaded = op.into_loaded();
+            match refusal {
+                Refusal::Halted(Halt::Full(Fullness { entries, bytes })) => {
+                    SubmitLoadRefused::JournalFull {
+                        entries,
+                        bytes,
+                        loaded,
+                    }
+                }
+                Refusal::Halted(Halt::NoMemory) => SubmitLoadRefused::NoMemory { loaded },
+                // Only an Unlist is refused so.
+                Refusal::NotListed => SubmitLoadRefused::NoMemory { loaded },
+            }
         }
     }
 }
@@ -172,11 +205,10 @@ pub(crate) fn unlist_refused(refused: CallRefused<Op, Refusal>) -> SubmitUnlistR
             drop(op);
             match refusal {
                 Refusal::NotListed => SubmitUnlistRefused::NotListed,
-                Refusal::JournalFull { entries, bytes } => SubmitUnlistRefused::JournalFull {
-                    entries,
-                    bytes,
-                },
-                Refusal::NoMemory => SubmitUnlistRefused::NoMemory,
+                Refusal::Halted(Halt::Full(Fullness { entries, bytes })) => {
+                    SubmitUnlistRefused::JournalFull { entries, bytes }
+                }
+                Refusal::Halted(Halt::NoMemory) => SubmitUnlistRefused::NoMemory,
             }
         }
     }

@@ -17,13 +17,14 @@ use crate::collecting::{
 };
 use crate::given::Given;
 use crate::kept::{Kept, LimitsName};
-use crate::operation::{Op, Refusal};
+use crate::operation::Op;
 use crate::refused::{
-    SubmitLoadRefused, SubmitRefused, SubmitUnlistRefused, submit_refused, unlist_refused,
+    SubmitLoadRefused, SubmitRefused, SubmitUnlistRefused, load_refused, submit_refused,
+    unlist_refused,
 };
 use authority_core::Authority;
 use authority_model::{Event, Limits, Loaded};
-use history_lock::{AdmitRefused, CallRefused, EndCause, HistoryLock, Opened, Pass, TableName};
+use history_lock::{AdmitRefused, EndCause, HistoryLock, Opened, Pass, TableName};
 use pk_types::NoMemory;
 use std::alloc::Global;
 use std::sync::Wait;
@@ -181,25 +182,7 @@ impl<L: LimitsName, T: TableName> Shared<L, T> {
     {
         match self.lock.call(rt, pass, Op::Load { moment, loaded }) {
             Ok(reply) => Ok(reply.into_place()),
-            Err(CallRefused::Ended { cause, op }) => {
-                let loaded = op.into_loaded();
-                Err(SubmitLoadRefused::Ended { cause, loaded })
-            }
-            Err(CallRefused::Machine { refusal, op }) => {
-                let loaded = op.into_loaded();
-                match refusal {
-                    Refusal::JournalFull { entries, bytes } => Err(
-                        SubmitLoadRefused::JournalFull {
-                            entries,
-                            bytes,
-                            loaded,
-                        },
-                    ),
-                    Refusal::NoMemory => Err(SubmitLoadRefused::NoMemory { loaded }),
-                    // Only an Unlist is refused so.
-                    Refusal::NotListed => Err(SubmitLoadRefused::NoMemory { loaded }),
-                }
-            }
+            Err(refused) => Err(load_refused(refused)),
         }
     }
 

@@ -8,12 +8,15 @@ use Rattle.authority_model.specs.Given.{next, event_given, load_given}
 use Rattle.authority_laws.specs.Batches.{in_order, collect_given}
 use Rattle.authority_core.specs.Journal.{Journal}
 use Rattle.authority_core.specs.Unlisting.{unlisted}
+use Rattle.authority_core.specs.Refusals.{IsHalted, halt_of_unlist}
 use Rattle.shared_authority.specs.declared.operation.Op.{Op}
+use Rattle.shared_authority.specs.declared.operation.Op.TheVariants.{Step, Load}
 use Rattle.shared_authority.specs.declared.operation.Refusal.{Refusal}
+use Rattle.shared_authority.specs.declared.operation.Refusal.TheVariants.{Halted}
 use Rattle.shared_authority.specs.declared.operation.Reply.TheVariants.{At, Batch as Batched}
-use Rattle.shared_authority.specs.Machines.{Gives, Refuses, RefusesAny, RefusesUnlist}
+use Rattle.shared_authority.specs.Machines.{Gives, Refuses, RefusesUnlist}
 use Rattle.shared_authority.proofs.Growing.{order_grows, order_length, order_journal, stays_within}
-use Rattle.shared_authority.proofs.Refusing.{step_back, step_refuses, load_back, load_refuses, collect_refuses, unlist_refuses}
+use Rattle.shared_authority.proofs.Refusing.{halts, unlist_refuses}
 use Rattle.shared_authority.proofs.kept.KeptMachine.apply.Goals as goal
 
 pub invariant_of-self-clause-within : goal.invariant_of-self-clause-within
@@ -60,22 +63,20 @@ pub returns-in-Err-clause-err : goal.returns-in-Err-clause-err
 returns-in-Err-clause-err g c =
     let kept = c.args.self.now in
     let e = c.in-Err.ensures in
-    let back = c.hand_back_step.ensures in
     let limits = g.L.LimitsName.limits in (
       ap (λ (j : Journal). in_order j.history) e.err,
-      ap (λ (p : Refusal × Op). p.1) back ∙ step_back kept.authority c.in-Step.moment c.in-Step.salt c.in-Step.event c.in-Err.refused e.refused ∙ sym c.in-Step.is,
-      subst (λ (op : Op). Refuses limits op (in_order kept.authority.history) c.hand_back_step.result.0) (sym c.in-Step.is) (subst (λ (r : Refusal). RefusesAny limits (in_order kept.authority.history) r) (sym (ap (λ (p : Refusal × Op). p.0) back)) (step_refuses kept.authority limits c.in-Step.event c.in-Err.refused e.refused kept.named kept.within)),
+      ap (Step c.in-Step.moment c.in-Step.salt) (c.into_parts-halt.ensures.event ∙ e.refused.1) ∙ sym c.in-Step.is,
+      subst (λ (op : Op). Refuses limits op (in_order kept.authority.history) (Halted c.into_parts-halt.result.0)) (sym c.in-Step.is) (halts kept.authority limits c.into_parts-halt.result.0 (subst (IsHalted kept.authority) (sym c.into_parts-halt.ensures.halt) e.refused.0) kept.named kept.within),
     )
 
 pub returns-in-Err-load-clause-err : goal.returns-in-Err-load-clause-err
 returns-in-Err-load-clause-err g c =
     let kept = c.args.self.now in
     let e = c.in-Err-load.ensures in
-    let back = c.hand_back_load.ensures in
     let limits = g.L.LimitsName.limits in (
       ap (λ (j : Journal). in_order j.history) e.err,
-      ap (λ (p : Refusal × Op). p.1) back ∙ load_back kept.authority c.in-Load.moment c.in-Load.loaded c.in-Err-load.refused e.refused ∙ sym c.in-Load.is,
-      subst (λ (op : Op). Refuses limits op (in_order kept.authority.history) c.hand_back_load.result.0) (sym c.in-Load.is) (subst (λ (r : Refusal). RefusesAny limits (in_order kept.authority.history) r) (sym (ap (λ (p : Refusal × Op). p.0) back)) (load_refuses kept.authority limits c.in-Load.loaded c.in-Err-load.refused e.refused kept.named kept.within)),
+      ap (Load c.in-Load.moment) (c.into_parts-halt-in-Err-load.ensures.loaded ∙ e.refused.1) ∙ sym c.in-Load.is,
+      subst (λ (op : Op). Refuses limits op (in_order kept.authority.history) (Halted c.into_parts-halt-in-Err-load.result.0)) (sym c.in-Load.is) (halts kept.authority limits c.into_parts-halt-in-Err-load.result.0 (subst (IsHalted kept.authority) (sym c.into_parts-halt-in-Err-load.ensures.halt) e.refused.0) kept.named kept.within),
     )
 
 pub invariant_of-self-in-Collect-clause-within : goal.invariant_of-self-in-Collect-clause-within
@@ -105,7 +106,7 @@ returns-in-Err-collect-clause-err g c =
     let limits = g.L.LimitsName.limits in (
       ap (λ (j : Journal). in_order j.history) e.err,
       sym c.in-Collect.is,
-      subst (λ (op : Op). Refuses limits op (in_order kept.authority.history) c.refusal_of.result) (sym c.in-Collect.is) (subst (λ (r : Refusal). RefusesAny limits (in_order kept.authority.history) r) (sym c.refusal_of.ensures) (collect_refuses kept.authority limits c.in-Err-collect.refused e.refused kept.named kept.within)),
+      subst (λ (op : Op). Refuses limits op (in_order kept.authority.history) (Halted c.halt.result)) (sym c.in-Collect.is) (halts kept.authority limits c.halt.result (subst (IsHalted kept.authority) (sym c.halt.ensures.halt) e.refused) kept.named kept.within),
     )
 
 pub invariant_of-self-in-Unlist-clause-within : goal.invariant_of-self-in-Unlist-clause-within
@@ -141,5 +142,5 @@ returns-in-Err-unlist-clause-err g c =
       sym c.in-Unlist.is,
       subst (λ (op : Op). Refuses limits op (in_order kept.authority.history) c.unlist_refusal.result) (sym c.in-Unlist.is)
           (subst (λ (r : Refusal). RefusesUnlist limits c.in-Unlist.pid c.in-Unlist.start (in_order kept.authority.history) r) (sym c.unlist_refusal.ensures)
-          (unlist_refuses kept.authority limits c.in-Unlist.pid c.in-Unlist.start c.in-Err-unlist.refused e.refused kept.named kept.within)),
+          (unlist_refuses kept.authority limits c.in-Unlist.pid c.in-Unlist.start (halt_of_unlist c.in-Err-unlist.refused) e.refused kept.named kept.within)),
     )

@@ -1,4 +1,4 @@
-use Rattle.std.proofs.Common.{ap, sym}
+use Rattle.std.proofs.Common.{ap}
 use Rattle.history_lock.specs.declared.machine.EndCause.TheVariants.{JournalFull, NoMemory}
 use Rattle.shared_authority.proofs.Causes.{cause_of_unlist, unlist_fits}
 use Rattle.shared_authority.proofs.refused.SubmitUnlistRefused.cause.Goals as goal
