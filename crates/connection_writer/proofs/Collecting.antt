@@ -1,5 +1,5 @@
 -- What a Collect that does not wait has told.
-use Rattle.std.proofs.Common.{◌≡◌, ℕ, Option, Some, None, Result, Ok, Err, refl, subst}
+use Rattle.std.proofs.Common.{◌≡◌, ℕ, Option, Some, Result, Ok, Err, refl, subst}
 use Rattle.std.specs.Result.{result_err}
 use Rattle.history_lock.specs.Known.{Known}
 use Rattle.authority_model.specs.declared.journal.Item.{Item}

@@ -1,13 +1,11 @@
 -- Why the next bytes may go.
-use Rattle.std.proofs.Common.{◌≡◌, ◌≢◌, ℕ, suc, false, List, ◌++◌, Option, None, refl, ap, sym, ◌∙◌, subst}
+use Rattle.std.proofs.Common.{◌≡◌, ℕ, suc, false, List, ◌++◌, Option, subst}
 use Rattle.authority_core.specs.declared.collecting.Batch.{Batch}
 use Rattle.authority_laws.proofs.Tracing.{access}
 use Rattle.authority_laws.specs.Batches.{collect_given}
-use Rattle.authority_messages.specs.Texts.{message_text, texts}
+use Rattle.authority_messages.specs.Texts.{texts}
 use Rattle.authority_model.specs.declared.journal.Item.{Item}
 use Rattle.authority_model.specs.declared.journal.Limits.{Limits}
-use Rattle.authority_model.specs.declared.load.Loaded.{Loaded}
-use Rattle.authority_model.specs.declared.message.Output.{Output}
 use Rattle.connection_laws.proofs.Doing.{did_entered}
 use Rattle.connection_laws.proofs.Growing.{knows_entered, knows_trans}
 use Rattle.history_lock.specs.Known.{Known}

@@ -1,4 +1,4 @@
--- Bytes that are written, and bytes that are ready behind them.
+-- Bytes that are written, and bytes that are ready behind them: those in the outbox.
 use Rattle.std.proofs.Common.{◌≡◌, ℕ, ◌≤◌, List, [], ◌++◌, Option, Result, Ok, Err, refl, ap, sym, ◌∙◌, subst, append_assoc, arith}
 use Rattle.std.specs.Result.{IsErrAnd}
 use Rattle.std.proofs.lemmas.List.{append-nil}
@@ -6,24 +6,16 @@ use Rattle.pk_outside.specs.Causes.{Rose}
 use Rattle.pk_outside.specs.Streams.{Got, GotFront, GotUpTo}
 use Rattle.pk_outside.proofs.Written.{Got-more, Got-none}
 use Rattle.connection_writer.specs.declared.ends.WriteStop.{WriteStop}
-use Rattle.connection_writer.specs.declared.ends.WriteStop.TheVariants as stop
-use Rattle.connection_writer.specs.Written.{HasStopped, StopCause, Writes, WritesUpTo}
+use Rattle.connection_writer.specs.Written.{Writes, WritesUpTo}
+
+-- some of what was ready was written, and the rest is left
+upto_out : (a b c : Option (List ℕ)) (all ready left : List ℕ) → GotUpTo a b all ready → GotUpTo b c ready left → GotUpTo a c all left
+upto_out a b c all ready left p q = (p.0 ++ q.0, p.1 ∙ ap (λ (l : List ℕ). p.0 ++ l) q.1 ∙ sym (append_assoc p.0 q.0 left), Got-more a b c p.0 q.0 p.2 q.2)
 
 -- what was ready is written, and what came behind it up to what is ready now
 pub upto_more : (a b c : Option (List ℕ)) (all ready text ready' : List ℕ) → GotUpTo a b all ready → GotUpTo b c (ready ++ text) ready' → GotUpTo a c (all ++ text) ready'
-upto_more a b c all ready text ready' p q = (
-  p.0 ++ q.0,
-  ap (λ (l : List ℕ). l ++ text) p.1 ∙ append_assoc p.0 ready text ∙ ap (λ (l : List ℕ). p.0 ++ l) q.1 ∙ sym (append_assoc p.0 q.0 ready'),
-  Got-more a b c p.0 q.0 p.2 q.2,
-)
-
--- nothing was written of what is ready
-pub upto_ready : (a : Option (List ℕ)) (bytes ready : List ℕ) → ready ≡ bytes → GotUpTo a a bytes ready
-upto_ready a bytes ready is = ([], sym is, Got-none a)
-
--- all bytes were written, and none is ready
-pub upto_flushed : (a b : Option (List ℕ)) (bytes ready : List ℕ) → ready ≡ [] → Got a b bytes → GotUpTo a b bytes ready
-upto_flushed a b bytes ready none got = (bytes, sym (append-nil bytes) ∙ ap (λ (l : List ℕ). bytes ++ l) (sym none), got)
+upto_more a b c all ready text ready' p q =
+    upto_out a b c (all ++ text) (ready ++ text) ready' (p.0, ap (λ (l : List ℕ). l ++ text) p.1 ∙ append_assoc p.0 ready text, p.2) q
 
 -- a prefix of that was
 pub front_more : (a b c : Option (List ℕ)) (all ready text : List ℕ) → GotUpTo a b all ready → GotFront b c (ready ++ text) → GotFront a c (all ++ text)
@@ -45,15 +37,14 @@ pub front_none : (a : Option (List ℕ)) (bytes : List ℕ) → GotFront a a byt
 front_none a bytes = (bytes, ([], refl, Got-none a))
 
 -- all that was ready was written
-pub upto_all : (a b c : Option (List ℕ)) (all ready : List ℕ) → GotUpTo a b all ready → Got b c ready → Got a c all
-upto_all a b c all ready p got = subst (λ (l : List ℕ). Got a c l) (sym p.1) (Got-more a b c p.0 ready p.2 got)
+pub upto_all : (a b c : Option (List ℕ)) (all ready left : List ℕ) → GotUpTo a b all ready → GotUpTo b c ready left → left ≡ [] → Got a c all
+upto_all a b c all ready left p q none =
+    let out = upto_out a b c all ready left p q in
+    subst (Got a c) (sym (out.1 ∙ ap (λ (l : List ℕ). out.0 ++ l) none ∙ append-nil out.0)) out.2
 
 -- a prefix of it was
-pub upto_front : (a b c : Option (List ℕ)) (all ready : List ℕ) → GotUpTo a b all ready → GotFront b c ready → GotFront a c all
-upto_front a b c all ready p q = (
-  q.0,
-  (p.0 ++ q.1.0, p.1 ∙ ap (λ (l : List ℕ). p.0 ++ l) q.1.1 ∙ sym (append_assoc p.0 q.1.0 q.0), Got-more a b c p.0 q.1.0 p.2 q.1.2),
-)
+pub upto_front : (a b c : Option (List ℕ)) (all ready left : List ℕ) → GotUpTo a b all ready → GotUpTo b c ready left → GotFront a c all
+upto_front a b c all ready left p q = (left, upto_out a b c all ready left p q)
 
 -- all bytes are a prefix of themselves, with more behind them or not
 pub front_of_got : (a b : Option (List ℕ)) (whole done rest : List ℕ) → whole ≡ done ++ rest → Got a b done → GotFront a b whole
@@ -69,11 +60,6 @@ front_behind a b c whole done text is got q = (
 pub rose_later : (first before now : ℕ) → first ≤ before → Rose before now → Rose first now
 rose_later first before now le rose = omega (arith, le, rose)
 
--- the same of the cause of a stop
-pub cause_later : (first before now : ℕ) (why : WriteStop) → first ≤ before → StopCause before now why → StopCause first now why
-cause_later first before now stop.Failed le cause = rose_later first before now le cause
-cause_later first before now stop.NoMemory le cause = tt
-
 -- An answer by the error of another call.
 pub writes_refused : {A : Type 0} (a b : Option (List ℕ)) (bytes : List ℕ) (result : Result A WriteStop) (why : WriteStop) → IsErrAnd result (λ (y : WriteStop). y ≡ why) → GotFront a b bytes → Writes a b bytes result
 writes_refused a b bytes (Ok done) why is front = absurd is
@@ -82,7 +68,3 @@ writes_refused a b bytes (Err y) why is front = front
 pub upto_refused : {A : Type 0} (a b : Option (List ℕ)) (bytes ready : List ℕ) (result : Result A WriteStop) (why : WriteStop) → IsErrAnd result (λ (y : WriteStop). y ≡ why) → GotFront a b bytes → WritesUpTo a b bytes ready result
 upto_refused a b bytes ready (Ok done) why is front = absurd is
 upto_refused a b bytes ready (Err y) why is front = front
-
-pub stopped_refused : {A : Type 0} (before now : ℕ) (result : Result A WriteStop) (why : WriteStop) → IsErrAnd result (λ (y : WriteStop). y ≡ why) → StopCause before now why → HasStopped before now result
-stopped_refused before now (Ok done) why is cause = absurd is
-stopped_refused before now (Err y) why is cause = subst (StopCause before now) (sym is) cause

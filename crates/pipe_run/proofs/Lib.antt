@@ -2,7 +2,6 @@ pub mod Loads
 pub mod Newest
 pub mod Takings
 pub mod Posting
-pub mod Outboxes
 pub mod Staging
 pub mod Waiting
 pub mod Following

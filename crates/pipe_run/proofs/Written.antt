@@ -7,19 +7,11 @@ use Rattle.pk_outside.specs.Causes.{FailsLast}
 use Rattle.authority_model.specs.declared.load.Loaded.{Loaded}
 use Rattle.authority_model.specs.declared.message.Output.{Output}
 use Rattle.authority_model.specs.Items.{count_to}
-use Rattle.authority_messages.specs.Messages.{message_for}
-use Rattle.authority_messages.specs.Outgoing.{under}
 use Rattle.authority_messages.specs.Texts.{message_text}
-use Rattle.dbus_values.specs.Form.{message_bytes}
 use Rattle.pipe_run.specs.declared.ends.Stopped.{Stopped}
 use Rattle.pipe_run.specs.declared.ends.Stopped.TheVariants as stopped
 use Rattle.pipe_run.specs.Answered.{FaultIn, WriteFaults}
 use Rattle.pipe_run.specs.Bytes.{AreSendableTo, output_bytes}
-
--- the message of an output
-pub text_is : (loads : List Loaded) (serial : ℕ) (o : Output) → message_text loads serial o ≡ message_bytes false (under serial (message_for loads o.message))
-unfolding message_text
-text_is loads serial o = refl
 
 -- the only output is not the connection's, or it is
 pub other_bytes : (loads : List Loaded) (c n : ℕ) (o : Output) → (o.to == c) ≡ false → output_bytes loads c n (o ∷ []) ≡ []

@@ -5,7 +5,6 @@
 #![tactic(auto)]
 
 mod ends;
-mod outbox;
 mod running;
 mod served;
 mod turning;

@@ -12,8 +12,8 @@ ghost use Rattle.pipe_run.specs.declared.served.Submission.TheVariants as submis
 ghost use Rattle.pipe_run.specs.Handed.{is_load_wanted, newest_wants_load};
 
 use crate::ends::Stopped;
-use crate::outbox::Outbox;
 use crate::writing::put_outputs;
+use answer_outbox::Outbox;
 use authority_core::{Authority, LoadStepRefused, StepRefused};
 use authority_model::{Entry, Event, Limits, Loaded, Message, Output};
 use pk_outside::Sink;

@@ -1,30 +1,13 @@
 // Keeps the messages of outputs, so that they are written.
-ghost use Rattle.std.specs.Prelude.{◌≡◌, ◌+◌, ◌++◌, ◌<◌, ◌∷◌, [], IfOk, OnOk};
+ghost use Rattle.std.specs.Prelude.{◌≡◌, ◌+◌, ◌++◌, ◌∷◌, [], IfOk, OnOk};
 ghost use Rattle.authority_model.specs.Items.{count_to};
-ghost use Rattle.authority_laws.specs.Batches.{IsSendable};
-ghost use Rattle.authority_messages.specs.Texts.{message_text};
 ghost use Rattle.pipe_run.specs.Bytes.{AreSendableTo, output_bytes};
 
-use crate::outbox::Outbox;
 use crate::served::CONNECTION;
+use answer_outbox::Outbox;
 use authority_model::{History, Output};
 use pk_types::NoMemory;
 use std::alloc::Global;
-
-/// Keeps the message of one output.
-fn put_message(
-    alloc: Global,
-    history: &History,
-    output: &Output,
-    serial: u32,
-    outbox: &mut Outbox,
-) -> Result<(), NoMemory>
-    requires sendable { IsSendable output.now.message }
-    requires serial { 0 < serial }
-    ensures put { OnOk result (outbox.new ≡ outbox.old ++ message_text history.now.loads serial output.now) }
-{
-    outbox.put_message(alloc, output, history, serial)
-}
 
 /// Keeps the message of an output, if it goes to the connection, which was sent so many before.
 /// The answer is how many it was sent now.
@@ -45,7 +28,7 @@ fn put_own(
     let Some(serial) = sent.checked_add(1) else {
         return Err(NoMemory);
     };
-    put_message(alloc, history, output, serial, outbox)?;
+    outbox.put_message(alloc, output, history, serial)?;
     Ok(serial)
 }
 

@@ -2,7 +2,7 @@
 use Rattle.std.proofs.Common.{◌≡◌, ◌-◌, ◌≤◌, length, drop}
 use Rattle.pk_outside.specs.Allowing.{MayGo}
 use Rattle.pk_outside.specs.Streams.{GotUpTo}
-use Rattle.pipe_run.proofs.outbox.Outbox.write_out.Given as goal
+use Rattle.answer_outbox.proofs.outbox.Outbox.write_out.Given as goal
 
 abbrev pub invariant-loop-self : goal.invariant-loop-self
 invariant-loop-self g l = record {

@@ -1,7 +1,7 @@
 -- One more write, or the one that failed.
 use Rattle.std.proofs.Common.{◌∙◌, ap, drop}
-use Rattle.pipe_run.proofs.Outboxes.{still_within, went_on, wrote_on}
-use Rattle.pipe_run.proofs.outbox.Outbox.write_out.Goals as goal
+use Rattle.answer_outbox.proofs.Outboxes.{still_within, went_on, wrote_on}
+use Rattle.answer_outbox.proofs.outbox.Outbox.write_out.Goals as goal
 
 pub loop-self-preserved : goal.loop-self-preserved
 loop-self-preserved g c = record {

@@ -1,12 +1,10 @@
-// What the connection is sent and was not written yet.
-ghost use Rattle.std.specs.Prelude.{◌≡◌, ◌<◌, ◌++◌, [], false, OnOk, OnErr};
+// The messages that a connection is sent and that were not written yet.
+ghost use Rattle.std.specs.Prelude.{◌≡◌, ◌<◌, ◌++◌, [], OnOk, OnErr};
 ghost use Rattle.pk_outside.specs.Allowing.{MayGo};
 ghost use Rattle.pk_outside.specs.Causes.{HasCause, FailsLast};
 ghost use Rattle.pk_outside.specs.Streams.{GotUpTo};
 ghost use Rattle.authority_laws.specs.Batches.{IsSendable};
-ghost use Rattle.authority_messages.specs.Messages.{message_for};
-ghost use Rattle.authority_messages.specs.Outgoing.{under};
-ghost use Rattle.dbus_values.specs.Form.{message_bytes};
+ghost use Rattle.authority_messages.specs.Texts.{message_text};
 
 use authority_model::{History, Output};
 use pk_outside::{Failed, Sink};
@@ -15,10 +13,10 @@ use std::alloc::Global;
 use std::marker::Model;
 use usual_replies::put_message_of;
 
-/// With so many bytes it is written, so that it stays short.
-const MANY: usize = 65_536;
+/// With this many bytes it is long: 64 KiB.
+const WRITE_BYTES: usize = 65_536;
 
-/// The bytes that the connection is sent and that were not written yet, since many answers go with
+/// The bytes that a connection is sent and that were not written yet, since many answers go with
 /// one write. Contracts see these bytes.
 #[derive(Drop)]
 pub struct Outbox {
@@ -50,11 +48,13 @@ impl Outbox {
 
     /// Whether it is long enough to be written.
     pub fn is_long(&self) -> bool {
-        self.bytes.len() >= MANY
+        self.bytes.len() >= WRITE_BYTES
     }
 
-    /// Puts the message of an output behind the bytes that are in it. Where memory is refused nothing
-    /// is left in it.
+    /// Puts the message of an output behind the bytes that are in it.
+    ///
+    /// # Errors
+    /// `NoMemory` where memory was refused. Nothing is left in it then.
     pub fn put_message(
         &mut self,
         alloc: Global,
@@ -64,7 +64,7 @@ impl Outbox {
     ) -> Result<(), NoMemory>
         requires sendable { IsSendable output.now.message }
         requires serial { 0 < serial }
-        ensures put { OnOk result (self.new ≡ self.old ++ message_bytes false (under serial (message_for history.now.loads output.now.message))) }
+        ensures put { OnOk result (self.new ≡ self.old ++ message_text history.now.loads serial output.now) }
         ensures dropped { OnErr result (self.new ≡ []) }
     {
         match put_message_of(alloc, output, history, serial, &mut self.bytes) {
@@ -77,11 +77,15 @@ impl Outbox {
         }
     }
 
-    /// Writes all that is in it. Where a write fails, what was not written stays.
+    /// Writes all that is in it.
+    ///
+    /// # Errors
+    /// `Failed` where the last write failed and counted one fault. What was not written stays.
     pub fn write_out<O: Sink>(&mut self, output: &mut O) -> Result<(), Failed>
         requires may { MayGo O.allowed (O.held output.old) self.old }
         ensures written { GotUpTo (O.held output.old) (O.held output.new) self.old self.new }
         ensures all { OnOk result (self.new ≡ []) }
+        ensures cause { HasCause (O.faults output.old) (O.faults output.new) result }
         ensures quiet { OnOk result (O.faults output.new ≡ O.faults output.old) }
         ensures last { OnErr result (FailsLast O.held O.faults output.old output.new) }
     {
