@@ -13,6 +13,10 @@ map_same f (x ∷ xs) (y ∷ ys) e same =
     let tail : map f ys ≡ map f xs = map_same f xs ys (omega arith) (λ i d lt. same (suc i) d (omega arith)) in
     cc
 
+-- the whole is what was written, where all elements were written
+pub whole_back : {A : Type 0} (len : ℕ) (new rest : List A) → len ≡ length new → take len (new ++ rest) ≡ new
+whole_back len new rest e = ap (λ (n : ℕ). take n (new ++ rest)) e ∙ take-append_seam new rest
+
 -- what holds of each element that was written holds of each of the whole, where all were written
 pub written_back : {A : Type 0} (P : A → Type 0) (len : ℕ) (new rest : List A) → len ≡ length new → All P new → All P (take len (new ++ rest))
-written_back {A} P len new rest e all = subst (λ (l : List A). All P l) (sym (ap (λ (n : ℕ). take n (new ++ rest)) e ∙ take-append_seam new rest)) all
+written_back {A} P len new rest e all = subst (λ (l : List A). All P l) (sym (whole_back len new rest e)) all

@@ -1,5 +1,5 @@
 -- Why a slot stops, as its history grows.
-use Rattle.std.proofs.Common.{◌≡◌, ◌++◌, ◌<◌, ◌≤◌, inr, [], ◌∷◌, List, ℕ, Option, None, Some, refl, sym, subst, arith, IfNone, IfSome}
+use Rattle.std.proofs.Common.{◌≡◌, ◌++◌, ◌<◌, ◌≤◌, inl, inr, [], ◌∷◌, List, ℕ, Option, None, Some, refl, sym, subst, arith, IfNone, IfSome}
 use Rattle.std.specs.Prelude.{Bool, nat_lt, true}
 use Rattle.std.proofs.lemmas.Bool.{lt-ltb}
 use Rattle.std.proofs.lemmas.List.Elements.{All-append, All-cons, All-nil}
@@ -22,7 +22,7 @@ use Rattle.service_slots.specs.declared.line.Line.{Line}
 use Rattle.service_slots.specs.declared.stop.SlotStop.{SlotStop}
 use Rattle.service_slots.specs.declared.stop.SlotStop.TheVariants as stop
 use Rattle.service_slots.proofs.Fresh.{learned_prefix}
-use Rattle.service_slots.specs.Stops.{ended_by, stop_after, NoneEnded, StopsAs, IsStopped, StopTells}
+use Rattle.service_slots.specs.Stops.{CountsAs, HasServedAll, ended_by, stop_after, NoneEnded, StopsAs, IsStopped, StopTells}
 
 -- one more connection, which the lock did not end
 none_more : (lines : List Line) (line : Line) → NoneEnded lines → ended_by line.end ≡ None → NoneEnded (lines ++ line ∷ [])
@@ -70,6 +70,44 @@ after_next limits uid v w m n left0 left held0 held gave0 gave drawn0 drawn r0 r
     let now = after_line limits uid v w m left0 left held0 held gave0 gave drawn0 drawn r0 r f0 f told faults lines number owner by end served known first.legal made top none in
     rw (all_is, why_is) now
 
+-- the count of a station rose, where that of a door is above 0
+risen : (before now faults : ℕ) → 0 < faults → RoseWhere (nat_lt 0 faults) before now → Rose before now
+risen before now faults above where_risen =
+    let yes : nat_lt 0 faults ≡ true = lt-ltb 0 faults above in
+    let known = subst (λ (b : Bool). RoseWhere b before now) yes where_risen in
+    known.1
+
+-- it stayed, where that of a door is 0
+stayed : (before now faults : ℕ) → faults ≡ 0 → RoseWhere (nat_lt 0 faults) before now → now ≡ before
+stayed before now faults none where_risen = subst (λ (n : ℕ). RoseWhere (nat_lt 0 n) before now) none where_risen
+
+-- a slot that was shut counts at its station as at its door
+pub counts_shut : (faults before now : ℕ) (why : Option SlotStop) → CountsAs 0 faults why → RoseWhere (nat_lt 0 faults) before now → CountsAs before now why
+counts_shut faults before now None counts rose = stayed before now faults counts rose
+counts_shut faults before now (Some stop.Closed) counts rose = stayed before now faults counts rose
+counts_shut faults before now (Some stop.DoorFailed) counts rose = risen before now faults (omega (arith, counts)) rose
+counts_shut faults before now (Some stop.NoMemory) counts rose = stayed before now faults counts rose
+counts_shut faults before now (Some stop.Served) counts rose = stayed before now faults counts rose
+counts_shut faults before now (Some (stop.Ended cause)) counts rose = stayed before now faults counts rose
+
+-- a slot that served all counted no fault
+pub counts_served : (before now : ℕ) (why : Option SlotStop) → CountsAs before now why → HasServedAll why → now ≡ before
+counts_served before now why counts (inl closed) = subst (λ (w : Option SlotStop). CountsAs before now w) closed counts
+counts_served before now why counts (inr served) = subst (λ (w : Option SlotStop). CountsAs before now w) served counts
+
+-- no end of a connection is a fault of the door
+pub counts_after : (before now : ℕ) (e : LiveEnd) → now ≡ before → CountsAs before now (stop_after e)
+counts_after before now (live.Plain (end.Ended cause)) same = same
+counts_after before now live.SightFault same = same
+counts_after before now (live.Plain end.WriteFault) same = same
+counts_after before now (live.Plain end.ReadFault) same = same
+counts_after before now (live.Plain (end.BadShake fault)) same = same
+counts_after before now (live.Plain end.ShakeCut) same = same
+counts_after before now (live.Plain (end.BadBytes _ _)) same = same
+counts_after before now (live.Plain (end.Truncated rest)) same = same
+counts_after before now (live.Plain end.Done) same = same
+counts_after before now (live.Plain end.NoMemory) same = same
+
 -- a slot that was shut had stopped for this, as the control pass knows since
 pub stop_told : (limits : Limits) (most : Option ℕ) (v w : Known Item) (told : Option DoorTold) (faults before now : ℕ) (lines : List Line) (why : Option SlotStop)
     → IsStopped limits most v told faults lines why → RoseWhere (nat_lt 0 faults) before now
@@ -77,10 +115,7 @@ pub stop_told : (limits : Limits) (most : Option ℕ) (v w : Known Item) (told :
     → StopTells limits most w before now lines why
 stop_told limits most v w told faults before now lines None is rose longer legal made top = absurd is
 stop_told limits most v w told faults before now lines (Some stop.Closed) is rose longer legal made top = is.1
-stop_told limits most v w told faults before now lines (Some stop.DoorFailed) is rose longer legal made top = (risen faults is.0 rose, is.1)
-  where
-    risen : (n : ℕ) → 0 < n → RoseWhere (nat_lt 0 n) before now → Rose before now
-    risen n above where_risen = let yes : nat_lt 0 n ≡ true = lt-ltb 0 n above in let known = subst (λ (b : Bool). RoseWhere b before now) yes where_risen in known.1
+stop_told limits most v w told faults before now lines (Some stop.DoorFailed) is rose longer legal made top = (risen before now faults is.0 rose, is.1)
 stop_told limits most v w told faults before now lines (Some stop.NoMemory) is rose longer legal made top = is
 stop_told limits most v w told faults before now lines (Some stop.Served) is rose longer legal made top = is
 stop_told limits most v w told faults before now lines (Some (stop.Ended cause)) is rose longer legal made top = (fits_lasts limits cause v.history w.history v.made w.made is.0 legal longer made top, is.1)

@@ -44,6 +44,11 @@ StopsAs limits most w told faults lines stop.NoMemory = NoneEnded lines
 StopsAs limits most w told faults lines stop.Served = (most ≡ Some (length lines)) × NoneEnded lines
 StopsAs limits most w told faults lines (stop.Ended cause) = Fits limits cause w.history w.made × (NoneEnded lines ⊎ EndsLast cause lines)
 
+-- A count of a slot's door rose where the slot stopped since its door failed, and else it stayed.
+abbrev pub CountsAs : ℕ → ℕ → Option SlotStop → Type 0
+CountsAs before now (Some stop.DoorFailed) = Rose before now
+CountsAs before now _ = now ≡ before
+
 -- The slot has stopped, for the cause that it notes.
 abbrev pub IsStopped : Limits → Option ℕ → Known Item → Option DoorTold → ℕ → List Line → Option SlotStop → Type 0
 IsStopped limits most w told faults lines None = ⊥

@@ -1,9 +1,10 @@
 // How a slot waits for a link.
 ghost use Rattle.std.specs.Prelude.{◌≡◌, ℕ, List as TheList, Option as TheOption, None, IfOk, IfErr, OnErr, MatchOption};
+ghost use Rattle.std.specs.Result.{result_err};
 ghost use mathlib.Core.List.{IsPrefix};
 ghost use Rattle.pk_outside.specs.Doors.{GivesLink};
 ghost use Rattle.service_slots.specs.declared.line.Line.{Line};
-ghost use Rattle.service_slots.specs.Stops.{NoneEnded, StopsAs};
+ghost use Rattle.service_slots.specs.Stops.{CountsAs, NoneEnded, StopsAs};
 
 use crate::stop::SlotStop;
 use history_lock::{Pass, TableName};
@@ -27,6 +28,7 @@ fn accept_once<L: LimitsName, T: TableName, D: Door, R: Wait>(
     ensures left { OnErr result (D.told door.new ≡ D.told door.old) }
     ensures stops { IfErr result (λ stop. (most : TheOption ℕ) (lines : TheList Line) → NoneEnded lines
         → StopsAs L.limits most pass.new (D.told door.new) (D.faults door.new) lines stop) }
+    ensures counts { CountsAs (D.faults door.old) (D.faults door.new) (result_err result) }
     ensures owner { D.owner door.new ≡ D.owner door.old }
     ensures grows { IsPrefix pass.old.history pass.new.history }
 {
@@ -56,6 +58,7 @@ pub(crate) fn next_link<L: LimitsName, T: TableName, D: Door, R: Wait>(
     ensures left { OnErr result (D.told door.new ≡ D.told door.old) }
     ensures stops { IfErr result (λ stop. (most : TheOption ℕ) (lines : TheList Line) → NoneEnded lines
         → StopsAs L.limits most pass.new (D.told door.new) (D.faults door.new) lines stop) }
+    ensures counts { CountsAs (D.faults door.old) (D.faults door.new) (result_err result) }
     ensures owner { D.owner door.new ≡ D.owner door.old }
     ensures grows { IsPrefix pass.old.history pass.new.history }
 {

@@ -8,7 +8,7 @@ ghost use Rattle.serve_loader.specs.Loads.{Loads};
 ghost use Rattle.service_slots.specs.Doors.{made_of};
 ghost use Rattle.service_slots.specs.Ending.{StopsLoader};
 ghost use Rattle.service_slots.specs.Served.{SlotOf};
-ghost use Rattle.service_slots.specs.Stops.{NoneEnded, IsStopped};
+ghost use Rattle.service_slots.specs.Stops.{CountsAs, NoneEnded, IsStopped};
 
 use crate::slot::Slot;
 use crate::slots::serve_slots;
@@ -21,6 +21,19 @@ use shared_authority::{Kept, LimitsName, Shared};
 use std::alloc::Global;
 use std::sync::Wait;
 use std::thread::{Threads, join};
+
+/// What a service serves with.
+#[derive(Drop)]
+pub struct OpenService<L: LimitsName, T: TableName, D: Door, C: Clock, S: Salt, G: Sights> {
+    /// The loader's pass.
+    pub zero: Pass<Kept<L>, T>,
+    /// The pass that stops the loader.
+    pub control: Pass<Kept<L>, T>,
+    /// The slots.
+    pub slots: Vec<Slot<L, T, D, C, S, G>>,
+    /// How many connections each slot serves at most, if that is told.
+    pub most: Option<u32>,
+}
 
 /// What is left when all slots and the loader have ended.
 #[derive(Drop)]
@@ -85,6 +98,7 @@ fn serve_then_stop<
         → All (λ s. SlotOf s.pass.history (D.owner s.door) (D.told s.door) (C.gave s.clock) (S.gave s.salt) s.lines.items) slots.new.items }
     ensures doors { map (λ s. made_of (D.told s.door)) slots.new.items ≡ map (λ s. made_of (D.told s.door)) slots.old.items }
     ensures stopped { All (λ s. IsStopped L.limits most s.pass (D.told s.door) (D.faults s.door) s.lines.items s.stop) slots.new.items }
+    ensures counts { All (λ s. D.faults s.door ≡ 0) slots.old.items → All (λ s. CountsAs 0 (D.faults s.door) s.stop) slots.new.items }
     ensures stops { StopsLoader L.limits control.old control.new result }
     ensures control { IsPrefix control.old.history control.new.history }
 {
@@ -109,25 +123,29 @@ pub fn serve_beside_loader<
     alloc: Global,
     shared: &'a Shared<L, T>,
     root: &'a Text,
-    most: Option<u32>,
     tree: &mut F,
-    mut zero: Pass<Kept<L>, T>,
-    mut control: Pass<Kept<L>, T>,
-    mut slots: Vec<Slot<L, T, D, C, S, G>>,
+    service: OpenService<L, T, D, C, S, G>,
 ) -> EndedService<L, T, D, C, S, G>
-    requires zero { zero.number ≡ 0 }
-    requires fresh { uid_of (past_of zero.history) 0 ≡ None }
-    requires none_ended { All (λ s. NoneEnded s.lines.items) slots.items }
+    requires zero { service.zero.number ≡ 0 }
+    requires fresh { uid_of (past_of service.zero.history) 0 ≡ None }
+    requires none_ended { All (λ s. NoneEnded s.lines.items) service.slots.items }
     requires may { MayServe D.Link.Out.allowed }
-    ensures slots { All (λ s. SlotOf s.pass.history (D.owner s.door) (D.told s.door) (C.gave s.clock) (S.gave s.salt) s.lines.items) slots.items
+    ensures slots { All (λ s. SlotOf s.pass.history (D.owner s.door) (D.told s.door) (C.gave s.clock) (S.gave s.salt) s.lines.items) service.slots.items
         → All (λ s. SlotOf s.pass.history (D.owner s.door) (D.told s.door) (C.gave s.clock) (S.gave s.salt) s.lines.items) result.slots.items }
-    ensures doors { map (λ s. made_of (D.told s.door)) result.slots.items ≡ map (λ s. made_of (D.told s.door)) slots.items }
-    ensures stopped { All (λ s. IsStopped L.limits most s.pass (D.told s.door) (D.faults s.door) s.lines.items s.stop) result.slots.items }
-    ensures stops { StopsLoader L.limits control result.control result.stopped }
-    ensures control { IsPrefix control.history result.control.history }
-    ensures loader { Loads L.limits (F.told tree.old) root.now (F.faults tree.old) result.tree_faults zero result.zero result.loader }
-    ensures zero { (result.zero.number ≡ 0) × IsPrefix zero.history result.zero.history }
+    ensures doors { map (λ s. made_of (D.told s.door)) result.slots.items ≡ map (λ s. made_of (D.told s.door)) service.slots.items }
+    ensures stopped { All (λ s. IsStopped L.limits service.most s.pass (D.told s.door) (D.faults s.door) s.lines.items s.stop) result.slots.items }
+    ensures counts { All (λ s. D.faults s.door ≡ 0) service.slots.items → All (λ s. CountsAs 0 (D.faults s.door) s.stop) result.slots.items }
+    ensures stops { StopsLoader L.limits service.control result.control result.stopped }
+    ensures control { IsPrefix service.control.history result.control.history }
+    ensures loader { Loads L.limits (F.told tree.old) root.now (F.faults tree.old) result.tree_faults service.zero result.zero result.loader }
+    ensures zero { (result.zero.number ≡ 0) × IsPrefix service.zero.history result.zero.history }
 {
+    let OpenService {
+        mut zero,
+        mut control,
+        mut slots,
+        most,
+    } = service;
     let for_loader = alloc;
     let for_slots = alloc;
     let ((zero, loader, tree_faults), (control, stopped, slots)) = join(
@@ -151,6 +169,7 @@ pub fn serve_beside_loader<
                 → let (pass, stopped, served) = result in All (λ s. SlotOf s.pass.history (D.owner s.door) (D.told s.door) (C.gave s.clock) (S.gave s.salt) s.lines.items) served.items }
             ensures doors { let (pass, stopped, served) = result in map (λ s. made_of (D.told s.door)) served.items ≡ map (λ s. made_of (D.told s.door)) slots.items }
             ensures stopped { let (pass, stopped, served) = result in All (λ s. IsStopped L.limits most s.pass (D.told s.door) (D.faults s.door) s.lines.items s.stop) served.items }
+            ensures counts { All (λ s. D.faults s.door ≡ 0) slots.items → let (pass, stopped, served) = result in All (λ s. CountsAs 0 (D.faults s.door) s.stop) served.items }
             ensures stops { let (pass, stopped, served) = result in StopsLoader L.limits control pass stopped }
             ensures control { let (pass, stopped, served) = result in IsPrefix control.history pass.history }
         {

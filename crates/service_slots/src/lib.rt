@@ -17,9 +17,9 @@ mod slot;
 mod slots;
 mod stop;
 
-pub use beside::{EndedService, serve_beside_loader};
+pub use beside::{EndedService, OpenService, serve_beside_loader};
 pub use line::Line;
-pub use opening::{ShutSlot, open_slot, shut_slot};
+pub use opening::{Place, ShutSlot, open_slot, shut_slot};
 pub use slot::Slot;
 pub use slots::serve_slots;
 pub use stop::SlotStop;

@@ -8,7 +8,7 @@ ghost use Rattle.shared_authority.specs.Journals.{IsJournal, caller_of};
 ghost use Rattle.service_slots.specs.declared.line.Line.{Line};
 ghost use Rattle.service_slots.specs.Doors.{made_of, DoorsAreDone, OpensDoor, ShutsDoor};
 ghost use Rattle.service_slots.specs.Served.{SlotOf, SlotsOf};
-ghost use Rattle.service_slots.specs.Stops.{HasServedAll, IsStopped, StopTells};
+ghost use Rattle.service_slots.specs.Stops.{CountsAs, HasServedAll, IsStopped, StopTells};
 ghost use Rattle.history_lock.specs.declared.machine.TheConstants.{MOST_PASSES};
 
 use crate::line::Line;
@@ -20,31 +20,41 @@ use pk_types::Text;
 use shared_authority::{Kept, LimitsName, Shared};
 use std::alloc::Global;
 
-/// Makes a door with a clock and a salt, and with looks at processes where its connections are to
-/// look, and a slot of them that has served nothing. `number` numbers the doors of one path.
+/// Which slot it is, and how its connections are served.
+#[derive(Clone, Copy)]
+pub struct Place<'a> {
+    /// The user of its door.
+    pub uid: u32,
+    /// The path of its door.
+    pub path: &'a Text,
+    /// Its number among the slots of this path.
+    pub number: u32,
+    /// Whether its connections look at processes.
+    pub live: bool,
+}
+
+/// Makes the door of a place with a clock and a salt, and with looks at processes where its connections
+/// are to look, and a slot of them that has served nothing.
 ///
 /// # Errors
 /// As of the station's door. The station then tells what it told.
 pub fn open_slot<L: LimitsName, T: TableName, N: Station>(
     alloc: Global,
     station: &mut N,
-    uid: u32,
-    path: &Text,
-    number: u32,
-    live: bool,
+    place: Place<'_>,
     pass: Pass<Kept<L>, T>,
 ) -> Result<Slot<L, T, N::Door, N::Clock, N::Salt, N::Sights>, StationRefused>
     ensures slot { IfOk result (λ slot. (now : StationTold) (H : List Item) → N.told station.new ≡ Some now → SlotOf H (N.Door.owner slot.door) (N.Door.told slot.door) (N.Clock.gave slot.clock) (N.Salt.gave slot.salt) slot.lines.items) }
-    ensures new { IfOk result (λ slot. (slot.pass ≡ pass) × (slot.lines.items ≡ []) × (slot.stop ≡ None)) }
-    ensures door { IfOk result (λ slot. OpensDoor uid path.now number live (N.told station.old) (N.told station.new) (made_of (N.Door.told slot.door))) }
+    ensures new { IfOk result (λ slot. (slot.pass ≡ pass) × (slot.lines.items ≡ []) × (slot.stop ≡ None) × (N.Door.faults slot.door ≡ 0)) }
+    ensures door { IfOk result (λ slot. OpensDoor place.entry.uid place.entry.path.now place.entry.number place.entry.live (N.told station.old) (N.told station.new) (made_of (N.Door.told slot.door))) }
     ensures refused { OnErr result (N.told station.new ≡ N.told station.old) }
     ensures cause { StationCause (N.faults station.old) (N.faults station.new) result }
 {
-    let door = station.door(uid, path, number)?;
+    let door = station.door(place.uid, place.path, place.number)?;
     let clock = station.clock();
     let salt = station.salt();
     let mut sights = None;
-    if live {
+    if place.live {
         sights = Some(station.sights());
     }
     Ok(Slot::new(alloc, pass, door, clock, salt, sights))
@@ -75,6 +85,7 @@ pub fn shut_slot<L: LimitsName, T: TableName, N: Station>(
     ensures done { (most : Option ℕ) → SlotOf slot.pass.history (N.Door.owner slot.door) (N.Door.told slot.door) (N.Clock.gave slot.clock) (N.Salt.gave slot.salt) slot.lines.items
         → IsStopped L.limits most slot.pass (N.Door.told slot.door) (N.Door.faults slot.door) slot.lines.items slot.stop
         → HasServedAll result.stop → DoorsAreDone most (N.told station.old) (N.told station.new) }
+    ensures counts { CountsAs 0 (N.Door.faults slot.door) slot.stop → CountsAs (N.faults station.old) (N.faults station.new) result.stop }
     ensures learned { Learned caller_of IsJournal control.old control.new }
     ensures top { control.new.made ≤ MOST_PASSES }
     ensures later { N.faults station.old ≤ N.faults station.new }

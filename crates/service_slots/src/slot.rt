@@ -7,12 +7,12 @@ ghost use Rattle.history_lock.specs.Entries.{NoneBy};
 ghost use Rattle.shared_authority.specs.Journals.{caller_of};
 ghost use Rattle.service_slots.specs.Doors.{made_of};
 ghost use Rattle.service_slots.specs.Served.{SlotOf};
-ghost use Rattle.service_slots.specs.Stops.{NoneEnded, StopsAs};
+ghost use Rattle.service_slots.specs.Stops.{CountsAs, NoneEnded, StopsAs};
 
 use crate::accepting::next_link;
 use crate::admitting::Passes;
 use crate::line::Line;
-use crate::serving::serve_passes;
+use crate::serving::serve_link;
 use crate::stop::SlotStop;
 use history_lock::{Pass, TableName};
 use pk_outside::{Clock, Door, Link, Salt, Sights};
@@ -94,7 +94,7 @@ pub(crate) fn serve_next<
     alloc: Global,
     shared: &'a Shared<L, T>,
     slot: &mut Slot<L, T, D, C, S, G>,
-    passes: Passes<L, T>,
+    mut passes: Passes<L, T>,
 ) -> Option<SlotStop>
     requires room { vec_len slot.old.lines < vec_capacity slot.old.lines }
     requires fresh { IsFresh passes.pass passes.collector }
@@ -105,6 +105,7 @@ pub(crate) fn serve_next<
         → SlotOf slot.new.pass.history (D.owner slot.new.door) (D.told slot.new.door) (C.gave slot.new.clock) (S.gave slot.new.salt) slot.new.lines.items }
     ensures door { made_of (D.told slot.new.door) ≡ made_of (D.told slot.old.door) }
     ensures goes_on { IfNone result (NoneEnded slot.new.lines.items) }
+    ensures counts { CountsAs (D.faults slot.old.door) (D.faults slot.new.door) result }
     ensures stops { IfSome result (λ stop. (most : Option ℕ) → StopsAs L.limits most slot.new.pass (D.told slot.new.door) (D.faults slot.new.door) slot.new.lines.items stop) }
 {
     let link = match next_link(rt, shared, &mut slot.door, &mut slot.pass) {
@@ -113,28 +114,10 @@ pub(crate) fn serve_next<
     };
     let mut ends = link.split();
     let uid = slot.door.uid();
-    let Passes {
-        mut pass,
-        mut collector,
-        sighter,
-    } = passes;
-    let (end, sighter) = serve_passes(
-        rt,
-        alloc,
-        shared,
-        &mut pass,
-        &mut collector,
-        sighter,
-        uid,
-        &mut slot.clock,
-        &mut slot.salt,
-        &mut slot.sights,
-        &mut ends.input,
-        &mut ends.output,
-    );
+    let (end, sighter) = serve_link(rt, alloc, shared, slot, &mut passes, &mut ends);
     slot.door.back(ends);
-    shared.meet(&mut slot.pass, &mut pass);
-    let number = pass.number();
+    shared.meet(&mut slot.pass, &mut passes.pass);
+    let number = passes.pass.number();
     slot.lines.push_reserved(Line {
         number,
         uid,

@@ -4,7 +4,7 @@ ghost use denote.Param.Send.{IsSync, IsSend};
 ghost use Rattle.connection_serve.specs.Promises.{MayServe};
 ghost use Rattle.service_slots.specs.Doors.{made_of};
 ghost use Rattle.service_slots.specs.Served.{SlotOf};
-ghost use Rattle.service_slots.specs.Stops.{NoneEnded, StopsAs, IsStopped};
+ghost use Rattle.service_slots.specs.Stops.{CountsAs, NoneEnded, StopsAs, IsStopped};
 
 use crate::admitting::admit_connection;
 use crate::slot::{Slot, serve_next};
@@ -40,6 +40,7 @@ fn turn<
         → SlotOf slot.new.pass.history (D.owner slot.new.door) (D.told slot.new.door) (C.gave slot.new.clock) (S.gave slot.new.salt) slot.new.lines.items }
     ensures door { made_of (D.told slot.new.door) ≡ made_of (D.told slot.old.door) }
     ensures goes_on { IfNone result (NoneEnded slot.new.lines.items) }
+    ensures counts { CountsAs (D.faults slot.old.door) (D.faults slot.new.door) result }
     ensures stops { IfSome result (StopsAs L.limits most slot.new.pass (D.told slot.new.door) (D.faults slot.new.door) slot.new.lines.items) }
 {
     if slot.has_served(most) {
@@ -78,6 +79,7 @@ fn serve_slot<
         → SlotOf slot.new.pass.history (D.owner slot.new.door) (D.told slot.new.door) (C.gave slot.new.clock) (S.gave slot.new.salt) slot.new.lines.items }
     ensures door { made_of (D.told slot.new.door) ≡ made_of (D.told slot.old.door) }
     ensures stopped { IsStopped L.limits most slot.new.pass (D.told slot.new.door) (D.faults slot.new.door) slot.new.lines.items slot.new.stop }
+    ensures counts { CountsAs (D.faults slot.old.door) (D.faults slot.new.door) slot.new.stop }
 {
     for _ in rt.forever() {
         if let Some(stop) = turn(rt, alloc, shared, most, slot) {
@@ -115,6 +117,7 @@ pub fn serve_slots<
         → All (λ s. SlotOf s.pass.history (D.owner s.door) (D.told s.door) (C.gave s.clock) (S.gave s.salt) s.lines.items) slots.new }
     ensures doors { map (λ s. made_of (D.told s.door)) slots.new ≡ map (λ s. made_of (D.told s.door)) slots.old }
     ensures stopped { All (λ s. IsStopped L.limits most s.pass (D.told s.door) (D.faults s.door) s.lines.items s.stop) slots.new }
+    ensures counts { All (λ s. D.faults s.door ≡ 0) slots.old → All (λ s. CountsAs 0 (D.faults s.door) s.stop) slots.new }
 {
     let count = slots.len();
     if count > 0 {
@@ -131,6 +134,7 @@ pub fn serve_slots<
                     → SlotOf slot.exit.now.pass.history (D.owner slot.exit.now.door) (D.told slot.exit.now.door) (C.gave slot.exit.now.clock) (S.gave slot.exit.now.salt) slot.exit.now.lines.items }
                 ensures door { made_of (D.told slot.exit.now.door) ≡ made_of (D.told slot.entry.now.door) }
                 ensures stopped { IsStopped L.limits most slot.exit.now.pass (D.told slot.exit.now.door) (D.faults slot.exit.now.door) slot.exit.now.lines.items slot.exit.now.stop }
+                ensures counts { CountsAs (D.faults slot.entry.now.door) (D.faults slot.exit.now.door) slot.exit.now.stop }
             { serve_slot(rt, alloc, shared, most, slot) },
         );
     }

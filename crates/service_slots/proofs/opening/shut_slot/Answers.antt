@@ -4,7 +4,7 @@ use Rattle.authority_model.specs.declared.journal.Item.{Item}
 use Rattle.service_slots.proofs.Fresh.{learned_prefix}
 use Rattle.service_slots.proofs.Growing.{slot_longer}
 use Rattle.service_slots.proofs.Backs.{shut_done, shut_step}
-use Rattle.service_slots.proofs.Stopping.{stop_told}
+use Rattle.service_slots.proofs.Stopping.{counts_shut, stop_told}
 use Rattle.service_slots.proofs.opening.shut_slot.Goals as goal
 
 pub returns-clause-slots : goal.returns-clause-slots
@@ -34,3 +34,7 @@ returns-clause-done g c most slot stopped all =
     let s = c.args.slot in
     shut_done s.pass.history g.L.LimitsName.limits most s.pass (g.N.Station.told c.args.station.now) (g.N.Station.told c.shut.new.self) (g.N.Door.Door.owner s.door) (g.N.Door.Door.faults s.door) (g.N.Door.Door.told s.door) (g.N.Clock.Clock.gave s.clock) (g.N.Salt.Salt.gave s.salt) s.lines.items s.stop
     slot stopped all c.shut.ensures.shut
+
+pub returns-clause-counts : goal.returns-clause-counts
+returns-clause-counts g c counts =
+    counts_shut (g.N.Door.Door.faults c.args.slot.door) (g.N.Station.faults c.args.station.now) (g.N.Station.faults c.shut.new.self) c.args.slot.stop counts c.shut.ensures.count

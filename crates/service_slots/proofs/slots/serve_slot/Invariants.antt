@@ -13,4 +13,5 @@ invariant-loop g l =
           → SlotOf l.slot.pass.history (g.D.Door.owner l.slot.door) (g.D.Door.told l.slot.door) (g.C.Clock.gave l.slot.clock) (g.S.Salt.gave l.slot.salt) l.slot.lines.items;
       door : made_of (g.D.Door.told l.slot.door) ≡ made_of (g.D.Door.told l.initial.slot.door);
       none_ended : NoneEnded l.slot.lines.items;
+      counts : g.D.Door.faults l.slot.door ≡ g.D.Door.faults l.initial.slot.door;
     }
