@@ -7,8 +7,12 @@ use Rattle.std.specs.List.{flat_map}
 use Rattle.std.proofs.lemmas.List.Elements.{All-head, All-tail}
 use mathlib.Core.List.{IsPrefix}
 use Rattle.history_lock.specs.declared.machine.TheConstants.{MOST_PASSES}
+use Rattle.history_lock.specs.Calls.{Learned}
+use Rattle.history_lock.specs.Entries.{GrownByOthers}
 use Rattle.history_lock.specs.Known.{Known}
 use Rattle.history_lock.specs.declared.machine.EndCause.{EndCause}
+use Rattle.history_lock.proofs.Growth.{others_begin, others_trans}
+use Rattle.history_lock.proofs.Prefixes.{prefix_trans}
 use Rattle.pk_outside.specs.Doors.{DoorTold}
 use Rattle.pk_outside.specs.Links.{LinkBack}
 use Rattle.pk_outside.specs.declared.sights.Sighted.{Sighted}
@@ -17,9 +21,10 @@ use Rattle.authority_model.specs.declared.journal.Item.{Item}
 use Rattle.authority_model.specs.declared.journal.Limits.{Limits}
 use Rattle.command_line.specs.declared.door.DoorPath.{DoorPath}
 use Rattle.serve_words.specs.declared.plan.ServePlan.{ServePlan}
-use Rattle.shared_authority.specs.Journals.{Fits, IsJournal}
+use Rattle.shared_authority.specs.Journals.{Fits, IsJournal, caller_of}
 use Rattle.shared_authority.specs.Lasting.{fits_lasts}
 use Rattle.service_slots.proofs.Backs.{slots_longer}
+use Rattle.service_slots.proofs.Fresh.{learned_prefix}
 use Rattle.service_slots.specs.Doors.{DoorMade, DoorsAreDone, door_made, made_of}
 use Rattle.service_slots.specs.declared.line.Line.{Line}
 use Rattle.service_slots.specs.Served.{Served, Slots, SlotsOf}
@@ -34,12 +39,33 @@ use Rattle.service_slots.specs.declared.stop.SlotStop.TheVariants as stop
 use Rattle.service_slots.specs.Ending.{StopsLoader}
 use Rattle.service_slots.specs.Stops.{StopTells}
 use Rattle.authority_service.specs.Causes.{FitsJournal}
-use Rattle.authority_service.specs.Running.{LoadsAll, ended_loader, ended_slot}
+use Rattle.authority_service.specs.Beginning.{HasBegun}
+use Rattle.authority_service.specs.Running.{HaveClosed, LoadsAlone, LoadsAll, ended_loader, ended_slot}
 use Rattle.authority_service.specs.Places.{OpensFirst, first_doors, sights_left}
-use Rattle.authority_service.specs.declared.top.Unbegun.TheVariants as unbegun
-use Rattle.authority_service.specs.Begun.{IsShort, Objects}
+use Rattle.authority_service.specs.declared.opening.Unbegun.TheVariants as unbegun
+use Rattle.authority_service.specs.Begun.{IsShort}
 use Rattle.authority_service.specs.Service.{DoorsBack, slots_of}
 use Rattle.authority_service.specs.Shutting.{ShutsAll}
+
+-- the two passes met, and the journal was closed by the loader's
+pub have_closed : (control zero first second : Known Item) (journal : List Item) → zero.number ≡ 0 → Learned caller_of IsJournal control first → Learned caller_of IsJournal zero second
+    → first.history ≡ second.history → first.made ≡ second.made → first.made ≤ MOST_PASSES → GrownByOthers caller_of second.number second.history journal → HaveClosed control zero journal
+have_closed control zero first second journal is told learned same counted top closed =
+    let before : GrownByOthers caller_of 0 zero.history second.history = subst (λ (n : ℕ). GrownByOthers caller_of n zero.history second.history) is learned.others in
+    let behind : GrownByOthers caller_of 0 second.history journal = subst (λ (n : ℕ). GrownByOthers caller_of n second.history journal) (learned.number ∙ is) closed in
+    let rest = others_trans caller_of 0 zero.history second.history journal before behind in
+    let known : IsPrefix first.history journal = subst (λ (h : List Item). IsPrefix h journal) (sym same) (others_begin caller_of 0 second.history journal behind) in
+    let grown = learned.made in
+    record {
+      control_begins = prefix_trans control.history first.history journal (learned_prefix control first told) known;
+      zero_begins = others_begin caller_of 0 zero.history journal rest;
+      rest = rest;
+      top = omega (arith, grown, counted, top);
+    }
+
+-- the loader alone entered by its number
+pub loads_alone : (start zero : Known Item) (journal : List Item) → HasBegun start → GrownByOthers caller_of 0 zero.history journal → LoadsAlone start.history zero.history journal
+loads_alone start zero journal begun rest = record { first = begun.first; begun = begun.own; rest = rest }
 
 -- a cause that fits what a pass knows fits the journal that goes on from there
 pub fits_closed : (limits : Limits) (cause : EndCause) (v : Known Item) (journal : List Item) → Fits limits cause v.history v.made → IsPrefix v.history journal → IsJournal journal → v.made ≤ MOST_PASSES → FitsJournal limits cause journal
@@ -212,19 +238,19 @@ cause_fits limits most w m z v from now slots told root before until start found
 -- Where none was found, no slot was stopped by the lock and the loader loaded to its end.
 pub none_found : (limits : Limits) (z : Known Item) (slots : List ShutSlot) (told : Option TreeTold) (root : Bytes) (before until : ℕ) (start : Known Item) (found first result : Option EndCause) (stopped : Result (Unit {0}) EndCause) (end : LoaderEnd) (journal : List Item)
     → result ≡ option_or first (ended_loader end) → first ≡ option_or found (result_err stopped)
-    → IfNone found (All (λ s. ended_slot s.stop ≡ None) slots) → Loads limits told root before until start z end → IsPrefix z.history journal
+    → IfNone found (All (λ s. ended_slot s.stop ≡ None) slots) → Loads limits told root before until start z end → IsPrefix z.history journal → LoadsAlone start.history z.history journal
     → IfNone result (LoadsAll limits told root journal × All (λ s. ended_slot s.stop ≡ None) slots)
-none_found limits z slots told root before until start (Some x) first result stopped end journal is one none loads begins = rw (is, one) tt
-none_found limits z slots told root before until start None first result (Err cause) end journal is one none loads begins = rw (is, one) tt
-none_found limits z slots told root before until start None first result (Ok done) (loader.Ended cause) journal is one none loads begins = rw (is, one) tt
-none_found limits z slots told root before until start None first result (Ok done) loader.Stopped journal is one none loads begins =
-    rw (is, one) (record { from = before; until = until; before = start; after = z; begins = begins; loads = loads }, none)
+none_found limits z slots told root before until start (Some x) first result stopped end journal is one none loads begins alone = rw (is, one) tt
+none_found limits z slots told root before until start None first result (Err cause) end journal is one none loads begins alone = rw (is, one) tt
+none_found limits z slots told root before until start None first result (Ok done) (loader.Ended cause) journal is one none loads begins alone = rw (is, one) tt
+none_found limits z slots told root before until start None first result (Ok done) loader.Stopped journal is one none loads begins alone =
+    rw (is, one) (record { from = before; until = until; before = start; after = z; begins = begins; loads = loads; alone = alone }, none)
 
 -- nothing was made
-pub short_none : (plan : ServePlan) (out : Objects) → out.station ≡ out.station_before → IsShort plan out unbegun.NoMemory
-short_none plan out same = record {
+pub short_none : (plan : ServePlan) (before after : Option StationTold) (faults_before faults : ℕ) → after ≡ before → IsShort plan before after faults_before faults unbegun.NoMemory
+short_none plan before after faults_before faults same = record {
   doors = 0;
-  back = subst (λ (t : Option StationTold). DoorsBack plan 0 out.station_before t) (sym same) (doors_none plan out.station_before);
+  back = subst (λ (t : Option StationTold). DoorsBack plan 0 before t) (sym same) (doors_none plan before);
   unserved = (λ none. subst (λ (t : Option StationTold). SlotsOf [] t []) (sym same) none);
   cause = tt;
 }
@@ -233,6 +259,11 @@ short_none plan out same = record {
 pub where_none : {P : Type 0} (kept : Option EndCause) → kept ≡ None → IfNone kept P → P
 where_none None is p = p
 where_none (Some cause) is p = absurd (cc (is))
+
+-- what holds where there is one
+pub where_some : {P : Type 0} (kept : Option EndCause) (cause : EndCause) → kept ≡ Some cause → IfSome kept (λ (c : EndCause). P) → P
+where_some None cause is p = absurd (cc (is))
+where_some (Some kept) cause is p = p
 
 -- the slots of a plan are few
 pub no_slots : (plan : ServePlan) → 0 ≤ slots_of plan

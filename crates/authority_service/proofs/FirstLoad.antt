@@ -4,13 +4,14 @@ use Rattle.std.proofs.lemmas.List.Elements.{All-head}
 use mathlib.Core.List.{IsPrefix}
 use Rattle.history_lock.specs.Known.{Known}
 use Rattle.history_lock.specs.Calls.{Learned}
-use Rattle.history_lock.specs.Entries.{NoneBy}
+use Rattle.history_lock.specs.Entries.{NoneBy, entries_by}
 use Rattle.authority_model.specs.declared.journal.Item.{Item}
 use Rattle.authority_model.specs.declared.load.Loaded.{Loaded}
 use Rattle.authority_model.specs.Given.{load_given, next}
 use Rattle.shared_authority.specs.Journals.{IsJournal, caller_of, past_of}
 use Rattle.shared_authority.specs.Passes.{Submitted}
-use Rattle.authority_service.specs.Beginning.{BeginsWith}
+use Rattle.serve_loader.proofs.Going.{unconnected_learned, unconnected_load}
+use Rattle.authority_service.specs.Beginning.{BeginsWith, HasBegun}
 
 -- items of which none is by 0 do not begin with one by 0
 none_first : (list : List Item) (i : Item) (more : List Item) → NoneBy caller_of 0 list → list ≡ i ∷ more → i.entry.caller ≡ 0 → ⊥
@@ -65,10 +66,28 @@ begins_longer first (x ∷ xs) more begins some longer = record {
     head : (x y : Item) (xs ys : List Item) → x ∷ xs ≡ y ∷ ys → x ≡ y
     head x y xs ys e = cc (e)
 
--- a pass that entered the load knows of something
-pub some_entered : (first : Loaded) (v w : Known Item) (place : ℕ) → Submitted v (load_given v.number 0 first) place w → w.history ≢ []
-some_entered first v w place submitted none = nothing submitted.entered.learned.grown.before (sym submitted.entered.learned.grown.grown ∙ none)
-  where
-    nothing : (before : List Item) → before ++ submitted.entered.item ∷ [] ≡ [] → ⊥
-    nothing [] e = absurd (cc (e))
-    nothing (b ∷ bs) e = absurd (cc (e))
+-- a pass of number 0 that knew of nothing has begun once it entered the load
+pub begun_entered : (first : Loaded) (v w : Known Item) (place : ℕ) → v.number ≡ 0 → v.history ≡ [] → Submitted v (load_given v.number 0 first) place w → HasBegun w
+begun_entered first v w place zero none submitted =
+    let e = submitted.entered in
+    record {
+      number = e.learned.number ∙ zero;
+      unconnected = unconnected_load v w 0 place first zero (rw none refl) submitted;
+      first = e.item;
+      own = subst (λ (n : ℕ). entries_by caller_of n w.history ≡ e.item ∷ []) zero (e.learned.own ∙ ap (λ (l : List Item). entries_by caller_of v.number l ++ e.item ∷ []) none);
+    }
+
+-- and so it has once it learned of others' items
+pub begun_learned : (v w : Known Item) → HasBegun v → Learned caller_of IsJournal v w → HasBegun w
+begun_learned v w begun learned = record {
+  number = learned.number ∙ begun.number;
+  unconnected = unconnected_learned v w begun.number begun.unconnected learned;
+  first = begun.first;
+  own = subst (λ (n : ℕ). entries_by caller_of n w.history ≡ entries_by caller_of n v.history) begun.number learned.own ∙ begun.own;
+}
+
+-- a pass that has begun knows of something
+pub some_begun : (v : Known Item) → HasBegun v → v.history ≢ []
+some_begun v begun none =
+    let nothing : [] ≡ begun.first ∷ [] = sym (ap (λ (l : List Item). entries_by caller_of 0 l) none) ∙ begun.own in
+    absurd (cc (nothing))

@@ -1,8 +1,7 @@
 -- What may be printed at each step of a service.
-use Rattle.std.proofs.Common.{◌≡◌, ◌++◌, List, ℕ, Option, subst}
-use Rattle.std.specs.Prelude.{map}
+use Rattle.std.proofs.Common.{◌≡◌, List, ℕ, Option, subst}
 use Rattle.std.specs.List.{flat_map}
-use Rattle.pk_outside.specs.Allowing.{MayFronts, MayGo}
+use Rattle.pk_outside.specs.Allowing.{MayGo}
 use Rattle.pk_outside.specs.Streams.{Got}
 use Rattle.pk_outside.proofs.Going.{fronts_more, may_go_whole}
 use Rattle.authority_laws.proofs.Tracing.{access}
@@ -10,11 +9,10 @@ use Rattle.authority_model.specs.declared.journal.History.{History}
 use Rattle.authority_model.specs.declared.load.Loaded.{Loaded}
 use Rattle.authority_model.specs.Items.{items_of}
 use Rattle.history_lock.specs.declared.machine.EndCause.{EndCause}
-use Rattle.journal_scan.specs.Orderly.{IsOrderly}
 use Rattle.serve_words.specs.declared.plan.ServePlan.{ServePlan}
 use Rattle.service_slots.specs.declared.opening.ShutSlot.{ShutSlot}
 use Rattle.authority_service.specs.Begun.{HasRun, Objects}
-use Rattle.authority_service.specs.Lines.{closing_text, opening_text, scanned}
+use Rattle.authority_service.specs.Lines.{closing_text, opening_text}
 use Rattle.authority_service.specs.Promises.{MayClose, MayPrintFrom}
 
 -- the opening text may be written

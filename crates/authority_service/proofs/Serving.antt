@@ -14,6 +14,7 @@ use Rattle.authority_model.specs.declared.journal.Item.{Item}
 use Rattle.authority_model.specs.declared.load.Loaded.{Loaded}
 use Rattle.authority_model.specs.Items.{items_of}
 use Rattle.pk_outside.specs.Causes.{Rose, one_more}
+use Rattle.pk_outside.specs.Stations.{StationTold}
 use Rattle.pk_outside.specs.Streams.{Got, GotFront}
 use Rattle.serve_words.specs.declared.plan.ServePlan.{ServePlan}
 use Rattle.service_slots.specs.declared.line.Line.{Line}
@@ -26,7 +27,7 @@ use Rattle.policy_load.specs.declared.refused.LoadRefused.{LoadRefused}
 use Rattle.policy_load.specs.declared.refused.LoadRefused.TheVariants as load_refused
 use Rattle.policy_load.specs.Causes.{FaultCause, LoadsAs}
 use Rattle.policy_load.specs.Loads.{load_of}
-use Rattle.authority_service.specs.declared.top.Unbegun.{Unbegun}
+use Rattle.authority_service.specs.declared.opening.Unbegun.{Unbegun}
 use Rattle.authority_service.specs.Begun.{HasRun, IsShort, Objects}
 use Rattle.authority_service.specs.Ends.{end_of_refused}
 use Rattle.authority_service.specs.Lines.{closing_text, opening_text}
@@ -34,7 +35,7 @@ use Rattle.authority_service.specs.Printing.{IsSound, WasPrinted, WasUntold, Wri
 use Rattle.authority_service.specs.Looks.{NeverLooked}
 use Rattle.authority_service.specs.Running.{ended_slot}
 use Rattle.authority_service.proofs.Unlooked.{all_unlooked, never_both, slots_unlooked, unlooked}
-use Rattle.authority_service.specs.Service.{AllServed, CanAdmitAll, FailedOnce, HasServed, IsFirst, IsLeft, IsUnbegun, IsUntouched, IsWritten, Left, Outside, Serves, WasCutShort, WasWhole, end_of, has_failed_door, has_no_memory, printed}
+use Rattle.authority_service.specs.Service.{AllServed, CanAdmitAll, CountedNone, FailedOnce, HasServed, IsFirst, IsLeft, IsUnbegun, IsUntouched, IsWritten, Left, Outside, Serves, WasCutShort, WasWhole, end_of, has_failed_door, has_no_memory, printed}
 
 -- some bytes were got, and then others
 pub got_both : (h0 h1 h2 : Option (List ℕ)) (a b : List ℕ) → Got h0 h1 a → Got h1 h2 b → Got h0 h2 (a ++ b)
@@ -205,6 +206,13 @@ doors_done plan first out history slots run memory failed =
     let stopped = (run.whole refl).stopped in
     stopped.done (all_served plan.limits plan.stop_after stopped.known out.station_faults_before out.station_faults slots stopped.stops stopped.none_ended memory failed)
 
+-- so that the station counted no fault
+doors_quiet : (plan : ServePlan) (first : Loaded) (out : Outside) (history : History) (slots : List ShutSlot) (run : HasRun plan first (objects_of out) history slots None)
+    → list_any (λ s. has_no_memory s.stop) slots ≡ false → list_any (λ s. has_failed_door s.stop) slots ≡ false → CountedNone out
+doors_quiet plan first out history slots run memory failed =
+    let stopped = (run.whole refl).stopped in
+    stopped.quiet (all_served plan.limits plan.stop_after stopped.known out.station_faults_before out.station_faults slots stopped.stops stopped.none_ended memory failed)
+
 -- the service was served, and its text was written
 served_so : (plan : ServePlan) (first : Loaded) (out : Outside) (history : History) (slots : List ShutSlot) (kept : Option EndCause) (run : HasRun plan first (objects_of out) history slots kept)
     → IsFirst plan out first → IsSound plan.live (items_of history) (flat_map (λ s. s.lines.items) slots) (length slots) kept
@@ -262,11 +270,15 @@ serves_by plan first out history slots None h1 faults run is_first told before s
     )
 serves_by plan first out history slots None h1 faults run is_first told before same false false true n d wrote =
     let left = left_of history slots run.doors in
-    rw (n, d) (record { first = first; left = left; served = served_so plan first out history slots None run is_first told (wrote_so plan first left out h1 faults true before same wrote); more = (was_whole plan first out history slots run told, doors_done plan first out history slots run n d, (wrote_whole plan first left out.held_before h1 out.held faults out.write_faults before wrote, wrote.1 ∙ same)) })
+    rw (n, d) (
+      doors_quiet plan first out history slots run n d,
+      record { first = first; left = left; served = served_so plan first out history slots None run is_first told (wrote_so plan first left out h1 faults true before same wrote); more = (was_whole plan first out history slots run told, doors_done plan first out history slots run n d, (wrote_whole plan first left out.held_before h1 out.held faults out.write_faults before wrote, wrote.1 ∙ same)) },
+    )
 serves_by plan first out history slots None h1 faults run is_first told before same false false false n d wrote =
     let left = left_of history slots run.doors in
     rw (n, d) (
       wrote.1 ∙ ap one_more same,
+      doors_quiet plan first out history slots run n d,
       inr (record { first = first; left = left; served = served_so plan first out history slots None run is_first told (wrote_so plan first left out h1 faults false before same wrote); more = (was_whole plan first out history slots run told, doors_done plan first out history slots run n d) }),
     )
 
@@ -284,9 +296,9 @@ serves_told plan first out history slots kept h1 faults e run is_first before sa
     (serves_by plan first out history slots kept h1 faults run is_first told.sound before same (list_any (λ s. has_no_memory s.stop) slots) (list_any (λ s. has_failed_door s.stop) slots) told.written refl refl told.wrote)
 
 -- a service that was cut short before there was a connection
-pub unbegun_short : (plan : ServePlan) (first : Loaded) (out : Outside) (objects : Objects) (why : Unbegun) → objects.station_before ≡ out.station_before → objects.station ≡ out.station
-    → IsShort plan objects why → IsFirst plan out first → IsWritten out (opening_text plan.audit first) → IsUnbegun plan out
-unbegun_short plan first out objects why before now short is_first written = record {
+pub unbegun_short : (plan : ServePlan) (first : Loaded) (out : Outside) (t0 t1 : Option StationTold) (f0 f1 : ℕ) (why : Unbegun) → t0 ≡ out.station_before → t1 ≡ out.station
+    → IsShort plan t0 t1 f0 f1 why → IsFirst plan out first → IsWritten out (opening_text plan.audit first) → IsUnbegun plan out
+unbegun_short plan first out t0 t1 f0 f1 why before now short is_first written = record {
   first = first;
   is_first = is_first;
   doors = short.doors;

@@ -17,7 +17,8 @@ use Rattle.service_slots.specs.declared.stop.SlotStop.{SlotStop}
 use Rattle.service_slots.specs.declared.stop.SlotStop.TheVariants as stop
 use Rattle.service_slots.specs.declared.opening.ShutSlot.{ShutSlot}
 use Rattle.service_slots.specs.Doors.{DoorsAreDone, IsDone, ShutsDoor}
-use Rattle.service_slots.specs.Stops.{HasServedAll, StopTells}
+use Rattle.service_slots.specs.Stops.{CountsAs, HasServedAll, StopTells}
+use Rattle.service_slots.proofs.Stopping.{counts_served}
 use Rattle.authority_service.specs.Shutting.{ShutsAll}
 
 -- no slot was shut
@@ -65,6 +66,13 @@ pub done_next : (most : Option ℕ) (t0 t1 t2 : Option StationTold) (slots now :
 done_next most t0 t1 t2 slots now one pushed before next all =
     let (these, last) = All-pop (λ (s : ShutSlot). HasServedAll s.stop) now slots (Some one) pushed all in
     done_both most t0 t1 t2 (before these) (next last)
+
+-- the next slot was shut, and where all of them served all none counted a fault
+pub counts_next : (from until later : ℕ) (slots now : List ShutSlot) (one : ShutSlot) → now ≡ slots ++ one ∷ []
+    → (All (λ s. HasServedAll s.stop) slots → until ≡ from) → CountsAs until later one.stop → All (λ s. HasServedAll s.stop) now → later ≡ from
+counts_next from until later slots now one pushed before next all =
+    let (these, last) = All-pop (λ (s : ShutSlot). HasServedAll s.stop) now slots (Some one) pushed all in
+    counts_served until later one.stop next last ∙ before these
 
 -- what a slot's stop told goes on to hold, as the pass learns more and the station counts more
 pub told_later : (limits : Limits) (most : Option ℕ) (v w : Known Item) (from until now : ℕ) (lines : List Line) (why : Option SlotStop)

@@ -1,5 +1,5 @@
 -- What a service leaves that was begun, before its lines are printed.
-use Rattle.std.specs.Prelude.{◌≡◌, ◌≤◌, ◌⊎◌, ℕ, List, [], Option, None, All, IfSome, length}
+use Rattle.std.specs.Prelude.{◌≡◌, ◌≤◌, ◌⊎◌, ℕ, List, [], Option, None, Result, Ok, Err, All, IfSome, length}
 use Rattle.std.specs.List.{flat_map}
 use Rattle.authority_laws.specs.Batches.{in_order}
 use Rattle.authority_model.specs.declared.journal.History.{History}
@@ -18,8 +18,9 @@ use Rattle.service_slots.specs.Doors.{DoorsAreDone}
 use Rattle.service_slots.specs.Served.{SlotsOf}
 use Rattle.service_slots.specs.Stops.{HasServedAll, StopTells}
 use Rattle.shared_authority.specs.Journals.{IsJournal}
-use Rattle.authority_service.specs.declared.top.Unbegun.{Unbegun}
-use Rattle.authority_service.specs.declared.top.Unbegun.TheVariants as unbegun
+use Rattle.authority_service.specs.declared.opening.Unbegun.{Unbegun}
+use Rattle.authority_service.specs.declared.opening.Unbegun.TheVariants as unbegun
+use Rattle.authority_service.specs.declared.running.Ran.{Ran}
 use Rattle.authority_service.specs.Beginning.{BeginsWith}
 use Rattle.authority_service.specs.Causes.{FitsJournal}
 use Rattle.authority_service.specs.Running.{HasLoaded, LoadsAll, ended_slot}
@@ -54,18 +55,19 @@ objects tree station_before station station_faults_before station_faults = recor
 }
 
 -- No connection was served: the first doors of the plan were made, and came back as they were.
-pub record IsShort (plan : ServePlan) (out : Objects) (why : Unbegun) : Type 0 where
+pub record IsShort (plan : ServePlan) (before after : Option StationTold) (faults_before faults : ℕ) (why : Unbegun) : Type 0 where
   pub doors : ℕ
-  pub back : DoorsBack plan doors out.station_before out.station
-  pub unserved : SlotsOf [] out.station_before [] → SlotsOf [] out.station []
-  pub cause : UnbegunCause out.station_faults_before out.station_faults why
+  pub back : DoorsBack plan doors before after
+  pub unserved : SlotsOf [] before [] → SlotsOf [] after []
+  pub cause : UnbegunCause faults_before faults why
 
--- Why the slots had stopped, by what a pass knew at the end, and what this says of their doors.
+-- Why the slots had stopped, by what a pass knew at the end, and what this says of their doors and of the station's count.
 pub record HaveStopped (plan : ServePlan) (out : Objects) (slots : List ShutSlot) : Type 0 where
   pub known : Known Item
   pub none_ended : All (λ s. ended_slot s.stop ≡ None) slots
   pub stops : All (λ s. StopTells plan.limits plan.stop_after known out.station_faults_before out.station_faults s.lines.items s.stop) slots
   pub done : All (λ s. HasServedAll s.stop) slots → DoorsAreDone plan.stop_after out.station_before out.station
+  pub quiet : All (λ s. HasServedAll s.stop) slots → out.station_faults ≡ out.station_faults_before
 
 -- The lock was not ended: all slots of the plan were served, and the loader loaded to its end.
 pub record RanWhole (plan : ServePlan) (out : Objects) (history : History) (slots : List ShutSlot) (doors : ℕ) : Type 0 where
@@ -85,3 +87,8 @@ pub record HasRun (plan : ServePlan) (first : Loaded) (out : Objects) (history :
   pub cause : IfSome kept (λ c. FitsJournal plan.limits c (in_order history))
   pub loaded : (slots ≡ []) ⊎ HasLoaded plan.limits out.tree plan.root (in_order history)
   pub whole : kept ≡ None → RanWhole plan out history slots doors
+
+-- What a service did that was to be begun with this first load.
+abbrev pub Runs : ServePlan → Loaded → Objects → Result Ran Unbegun → Type 0
+Runs plan first out (Ok ran) = HasRun plan first out ran.authority.history ran.slots.items ran.cause
+Runs plan first out (Err why) = IsShort plan out.station_before out.station out.station_faults_before out.station_faults why

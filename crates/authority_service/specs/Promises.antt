@@ -1,5 +1,5 @@
 -- What a service may print, whether or not it ends.
-use Rattle.std.specs.Prelude.{◌≡◌, ◌≤◌, ℕ, Bool, false, List, Option, Ok, IfSome, All, length, map}
+use Rattle.std.specs.Prelude.{◌≡◌, ◌≤◌, ℕ, false, List, Option, Ok, IfSome, All, length, map}
 use Rattle.pk_outside.specs.Allowing.{MayFronts}
 use Rattle.pk_outside.specs.Trees.{TreeTold}
 use Rattle.policy_load.specs.Loads.{load_of}

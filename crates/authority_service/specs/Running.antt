@@ -1,8 +1,10 @@
 -- What the slots and the loader of a service leave.
-use Rattle.std.specs.Prelude.{ℕ, List, Option, None, Some, Result, Ok, Err}
+use Rattle.std.specs.Prelude.{◌≡◌, ◌≤◌, ◌∷◌, [], ℕ, List, Option, None, Some, Result, Ok, Err}
 use mathlib.Core.List.{IsPrefix}
+use Rattle.history_lock.specs.Entries.{GrownByOthers, entries_by}
 use Rattle.history_lock.specs.Known.{Known}
 use Rattle.history_lock.specs.declared.machine.EndCause.{EndCause}
+use Rattle.history_lock.specs.declared.machine.TheConstants.{MOST_PASSES}
 use Rattle.authority_model.specs.declared.journal.Item.{Item}
 use Rattle.authority_model.specs.declared.journal.Limits.{Limits}
 use Rattle.authority_model.specs.Words.{Bytes}
@@ -10,8 +12,22 @@ use Rattle.pk_outside.specs.Trees.{TreeTold}
 use Rattle.serve_loader.specs.declared.ends.LoaderEnd.{LoaderEnd}
 use Rattle.serve_loader.specs.declared.ends.LoaderEnd.TheVariants as loader
 use Rattle.serve_loader.specs.Loads.{Loads}
+use Rattle.shared_authority.specs.Journals.{caller_of}
 use Rattle.service_slots.specs.declared.stop.SlotStop.{SlotStop}
 use Rattle.service_slots.specs.declared.stop.SlotStop.TheVariants as stop
+
+-- What the control pass and the loader's knew at the end begins the closed journal, and what came behind the loader's is others'. The loader's pass knew of no more passes than are made at most.
+pub record HaveClosed (control zero : Known Item) (journal : List Item) : Type 0 where
+  pub control_begins : IsPrefix control.history journal
+  pub zero_begins : IsPrefix zero.history journal
+  pub rest : GrownByOthers caller_of 0 zero.history journal
+  pub top : zero.made ≤ MOST_PASSES
+
+-- Nothing in a journal has the loader's number, which is 0, but the first load and what the loader entered: in what it knew when it began there is one entry of its own, and behind what it knew at its end there is none.
+pub record LoadsAlone (before after journal : List Item) : Type 0 where
+  pub first : Item
+  pub begun : entries_by caller_of 0 before ≡ first ∷ []
+  pub rest : GrownByOthers caller_of 0 after journal
 
 -- The loader loaded until it ended so, by what it knew of this journal: it stood for `before` when it began and for `after` when it ended, and the tree counted from so many faults up to so many.
 pub record LoadsUntil (end : LoaderEnd) (limits : Limits) (told : Option TreeTold) (root : Bytes) (journal : List Item) : Type 0 where
@@ -21,6 +37,7 @@ pub record LoadsUntil (end : LoaderEnd) (limits : Limits) (told : Option TreeTol
   pub after : Known Item
   pub begins : IsPrefix after.history journal
   pub loads : Loads limits told root from until before after end
+  pub alone : LoadsAlone before.history after.history journal
 
 -- the loader loaded to its end
 abbrev pub LoadsAll : Limits → Option TreeTold → Bytes → List Item → Type 0

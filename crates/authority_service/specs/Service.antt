@@ -175,6 +175,10 @@ pub record WasCutShort (plan : ServePlan) (out : Outside) : Type 0 where
   pub written : GotFront out.held_before out.held (printed plan first left)
   pub faults : (out.write_faults ≡ out.write_faults_before) ⊎ FailedOnce out
 
+-- The station counted no fault: no door was refused, and none failed.
+abbrev pub CountedNone : Outside → Type 0
+CountedNone out = out.station_faults ≡ out.station_faults_before
+
 -- a service that was served, of which more holds
 pub record Ended (plan : ServePlan) (out : Outside) (More : Loaded → Left → Type 0) : Type 0 where
   pub first : Loaded
@@ -188,8 +192,8 @@ Serves plan out (end.TreeFault count) = IsUntouched out × (count ≡ out.tree_f
 Serves plan out (end.LoadRefused refused) = IsUntouched out × IfSome out.tree (λ tree. load_of tree plan.root ≡ Err refused)
 Serves plan out end.NoMemory = IsUntouched out ⊎ (IsUnbegun plan out ⊎ WasCutShort plan out)
 Serves plan out end.DoorFault = Rose out.station_faults_before out.station_faults × (IsUnbegun plan out ⊎ Ended plan out (λ first left. WasWhole plan out left))
-Serves plan out end.WriteFault = FailedOnce out × (IsUnbegun plan out ⊎ Ended plan out (λ first left. WasWhole plan out left × AllServed plan out))
-Serves plan out end.Done = Ended plan out (λ first left. WasWhole plan out left × AllServed plan out × Wrote out (printed plan first left))
+Serves plan out end.WriteFault = FailedOnce out × CountedNone out × (IsUnbegun plan out ⊎ Ended plan out (λ first left. WasWhole plan out left × AllServed plan out))
+Serves plan out end.Done = CountedNone out × Ended plan out (λ first left. WasWhole plan out left × AllServed plan out × Wrote out (printed plan first left))
 Serves plan out (end.JournalFull entries bytes) = Ended plan out (λ first left. FitsJournal plan.limits (cause.JournalFull entries bytes) (in_order left.journal))
 Serves plan out (end.Admissions admitted) = Ended plan out (λ first left. FitsJournal plan.limits (cause.Admissions admitted) (in_order left.journal) × AdmitsAll plan left)
 

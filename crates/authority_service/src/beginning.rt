@@ -1,36 +1,83 @@
-// The first load.
-ghost use Rattle.std.specs.Prelude.{◌≡◌, [], IfErr, OnOk, ◌≢◌};
-ghost use mathlib.Core.List.{IsPrefix};
-ghost use Rattle.authority_service.specs.Beginning.{BeginsWith};
-ghost use Rattle.authority_model.specs.Peers.{uid_of};
-ghost use Rattle.std.specs.Prelude.{None, Some};
-ghost use Rattle.shared_authority.specs.Journals.{Fits, past_of};
+// The first load, and what a service has before it opens its doors.
+ghost use Rattle.std.specs.Prelude.{◌≡◌, ◌≤◌, [], IfErr, IfOk, OnOk, vec_len};
+ghost use Rattle.std.specs.Vec.{vec_capacity};
+ghost use Rattle.authority_service.specs.Beginning.{BeginsWith, HasBegun};
+ghost use Rattle.authority_service.specs.Causes.{PrepareCause};
+ghost use Rattle.authority_service.specs.Service.{slots_of};
+ghost use Rattle.serve_words.specs.Plans.{IsAllowed};
 
+use crate::admitting::{PrepareRefused, admit_one, admit_passes};
 use authority_model::Loaded;
-use history_lock::{EndCause, Pass, TableName};
+use history_lock::{Pass, TableName};
+use serve_words::ServePlan;
+use service_slots::ShutSlot;
 use shared_authority::{Kept, LimitsName, Shared};
+use std::alloc::Global;
 use std::sync::Wait;
 
 /// Enters the first load, with the moment 0. Where it is refused the lock is ended, and the kept
 /// cause is answered.
-pub fn enter_first<L: LimitsName, T: TableName, R: Wait>(
+fn enter_first<L: LimitsName, T: TableName, R: Wait>(
     rt: &R,
     shared: &Shared<L, T>,
     zero: &mut Pass<Kept<L>, T>,
     first: Loaded,
-) -> Result<(), EndCause>
+) -> Result<(), PrepareRefused>
     requires zero { zero.old.number ≡ 0 }
     requires new { zero.old.history ≡ [] }
-    ensures number { zero.new.number ≡ 0 }
     ensures begins { BeginsWith first zero.new.history }
-    ensures entered { OnOk result ((zero.new.history ≢ []) × (uid_of (past_of zero.new.history) 0 ≡ None)) }
-    ensures ended { IfErr result (λ cause. Fits L.limits cause zero.new.history zero.new.made × (zero.new.ended ≡ Some cause)) }
+    ensures begun { OnOk result (HasBegun zero.new) }
+    ensures cause { IfErr result (PrepareCause L.limits zero.new) }
 {
     match shared.submit_load(rt, zero, 0, first) {
         Ok(_place) => Ok(()),
         Err(refused) => {
-            let cause = refused.cause();
-            Err(shared.end(rt, zero, cause))
+            let refusal = refused.cause();
+            let cause = shared.end(rt, zero, refusal);
+            Err(PrepareRefused::Ended { cause })
         }
     }
+}
+
+/// What a service has before it opens its doors, besides the loader's pass.
+#[derive(Drop)]
+pub struct Parts<L: LimitsName, T: TableName> {
+    /// The pass that stops the loader.
+    pub control: Pass<Kept<L>, T>,
+    /// One pass for each slot.
+    pub passes: Vec<Pass<Kept<L>, T>>,
+    /// Room for what is left of each slot.
+    pub shut: Vec<ShutSlot>,
+}
+
+/// Enters the first load by the loader's pass, and makes the other passes of a plan.
+pub fn prepare<L: LimitsName, T: TableName, R: Wait>(
+    rt: &R,
+    alloc: Global,
+    shared: &Shared<L, T>,
+    zero: &mut Pass<Kept<L>, T>,
+    plan: &ServePlan,
+    first: Loaded,
+) -> Result<Parts<L, T>, PrepareRefused>
+    requires allowed { IsAllowed plan.now }
+    requires zero { zero.old.number ≡ 0 }
+    requires new { zero.old.history ≡ [] }
+    ensures begins { BeginsWith first zero.new.history }
+    ensures begun { OnOk result (HasBegun zero.new) }
+    ensures passes { IfOk result (λ parts. vec_len parts.passes ≡ slots_of plan.now) }
+    ensures room { IfOk result (λ parts. (parts.shut.items ≡ []) × (slots_of plan.now ≤ vec_capacity parts.shut)) }
+    ensures cause { IfErr result (PrepareCause L.limits zero.new) }
+{
+    enter_first(rt, shared, zero, first)?;
+    let control = admit_one(rt, shared, zero)?;
+    let count = plan.doors.len() * plan.slots as usize;
+    let passes = admit_passes(rt, alloc, shared, zero, count)?;
+    let Ok(shut) = Vec::with_capacity(alloc, count) else {
+        return Err(PrepareRefused::NoMemory);
+    };
+    Ok(Parts {
+        control,
+        passes,
+        shut,
+    })
 }

@@ -9,6 +9,7 @@ mod ends;
 mod lines;
 mod opening;
 mod running;
+mod service;
 mod shutting;
 mod telling;
 mod top;

@@ -5,7 +5,7 @@ ghost use Rattle.authority_service.specs.Shutting.{ShutsAll};
 ghost use Rattle.connection_laws.specs.Knowing.{KnowsMore};
 ghost use Rattle.service_slots.specs.Doors.{DoorsAreDone};
 ghost use Rattle.service_slots.specs.Served.{SlotOf, SlotsOf};
-ghost use Rattle.service_slots.specs.Stops.{HasServedAll, IsStopped, StopTells};
+ghost use Rattle.service_slots.specs.Stops.{CountsAs, HasServedAll, IsStopped, StopTells};
 ghost use Rattle.history_lock.specs.declared.machine.TheConstants.{MOST_PASSES};
 
 use history_lock::{Pass, TableName};
@@ -38,6 +38,7 @@ pub fn shut_slots<L: LimitsName, T: TableName, N: Station>(
     ensures top { control.new.made ≤ MOST_PASSES }
     ensures lines { map (λ s. s.lines.items) shut.new.items ≡ map (λ s. s.lines.items) slots.items }
     ensures stopped { map (λ s. s.stop) shut.new.items ≡ map (λ s. s.stop) slots.items }
+    ensures counts { All (λ s. CountsAs 0 (N.Door.faults s.door) s.stop) slots.items → All (λ s. HasServedAll s.stop) shut.new.items → N.faults station.new ≡ N.faults station.old }
     ensures later { N.faults station.old ≤ N.faults station.new }
 {
     let _number = control.number();

@@ -1,6 +1,9 @@
-use Rattle.history_lock.proofs.Growth.{learned_trans}
-use Rattle.shared_authority.specs.Journals.{IsJournal, caller_of}
+use Rattle.authority_service.proofs.FirstLoad.{begun_learned}
 use Rattle.authority_service.proofs.admitting.admit_one.Goals as goal
 
-pub returns-in-Err-Full-clause-learned : goal.returns-in-Err-Full-clause-learned
-returns-in-Err-Full-clause-learned g c = learned_trans caller_of IsJournal c.args.control.now c.admit.new.pass c.end.new.pass c.admit.ensures.learned c.end.ensures.learned
+pub returns-in-Ok-clause-begun : goal.returns-in-Ok-clause-begun
+returns-in-Ok-clause-begun g c = begun_learned c.args.zero.now c.admit.new.pass c.requires.begun c.admit.ensures.learned
+
+pub returns-in-Err-Full-clause-begun : goal.returns-in-Err-Full-clause-begun
+returns-in-Err-Full-clause-begun g c =
+    begun_learned c.admit.new.pass c.end-cause.new.pass (begun_learned c.args.zero.now c.admit.new.pass c.requires.begun c.admit.ensures.learned) c.end-cause.ensures.learned

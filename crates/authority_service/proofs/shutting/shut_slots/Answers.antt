@@ -8,9 +8,9 @@ use Rattle.service_slots.specs.declared.line.Line.{Line}
 use Rattle.service_slots.specs.declared.slot.Slot.{Slot}
 use Rattle.service_slots.specs.declared.opening.ShutSlot.{ShutSlot}
 use Rattle.service_slots.specs.Served.{SlotOf, SlotsOf}
-use Rattle.service_slots.specs.Stops.{IsStopped, StopTells}
+use Rattle.service_slots.specs.Stops.{CountsAs, IsStopped, StopTells}
 use Rattle.authority_service.specs.Shutting.{ShutsAll}
-use Rattle.authority_service.proofs.ShutDoors.{done_next, done_none, shuts_none, shuts_next, next_of, moved_on, moved_to, moved_all, lines_next, stops_next}
+use Rattle.authority_service.proofs.ShutDoors.{counts_next, done_next, done_none, shuts_none, shuts_next, next_of, moved_on, moved_to, moved_all, lines_next, stops_next}
 use Rattle.authority_service.proofs.shutting.shut_slots.Goals as goal
 
 pub loop-slot-init : goal.loop-slot-init
@@ -28,6 +28,7 @@ loop-slot-init g c =
       stopped = search rules;
       slots = λ all was. (all, subst (λ (l : List ShutSlot). SlotsOf control.history told (flat_map (λ (s : ShutSlot). s.lines.items) l)) (sym {A = List ShutSlot} none) was);
       stops = λ most all. (all, subst (λ (l : List ShutSlot). All (λ (s : ShutSlot). StopTells g.L.LimitsName.limits most control (g.N.Station.faults c.args.station.now) (g.N.Station.faults c.args.station.now) s.lines.items s.stop) l) (sym {A = List ShutSlot} none) (All-nil _));
+      counts = λ all. (all, λ served. refl);
       done = λ most all stopped. (all, λ served. done_none most told);
     }
 
@@ -74,6 +75,11 @@ loop-slot-preserved g c =
             rest,
             stops_next limits most c.loop-slot.control one.new.control start until now done c.push_reserved.new.self.items one.result pushed knows one.ensures.top before.later one.ensures.later so (one.ensures.stop most next),
           );
+      counts = λ was.
+          let (these, so) = before.counts was in
+          let P = λ (s : Slot g.row.L.Denot g.row.T.Denot g.row.N-Door.Denot g.row.N-Clock.Denot g.row.N-Salt.Denot g.row.N-Sights.Denot g.row.N-Door-Link.Denot g.row.N-Door-Link-In.Denot g.row.N-Door-Link-Out.Denot g.L.LimitsName). CountsAs 0 (g.N.Door.Door.faults s.door) s.stop in
+          let (next, rest) = next_of slot others left P step these in
+          (rest, counts_next start until now done c.push_reserved.new.self.items one.result pushed so (one.ensures.counts next));
       done = λ most was stopped.
           let (these, so) = before.done most was stopped in
           let P = λ (s : Slot g.row.L.Denot g.row.T.Denot g.row.N-Door.Denot g.row.N-Clock.Denot g.row.N-Salt.Denot g.row.N-Sights.Denot g.row.N-Door-Link.Denot g.row.N-Door-Link-In.Denot g.row.N-Door-Link-Out.Denot g.L.LimitsName). SlotOf s.pass.history (g.N.Door.Door.owner s.door) (g.N.Door.Door.told s.door) (g.N.Clock.Clock.gave s.clock) (g.N.Salt.Salt.gave s.salt) s.lines.items in
@@ -104,6 +110,13 @@ returns-clause-stops g c most was =
     let all : c.into_iter-slot-iterator.result.rest.items ≡ c.args.slots.items = search rules in
     let P = λ (s : Slot g.row.L.Denot g.row.T.Denot g.row.N-Door.Denot g.row.N-Clock.Denot g.row.N-Salt.Denot g.row.N-Sights.Denot g.row.N-Door-Link.Denot g.row.N-Door-Link-In.Denot g.row.N-Door-Link-Out.Denot g.L.LimitsName). IsStopped g.L.LimitsName.limits most s.pass (g.N.Door.Door.told s.door) (g.N.Door.Door.faults s.door) s.lines.items s.stop in
     let (rest, so) = c.loop-slot.invariant.stops most (All-same P _ _ all was) in
+    so
+
+pub returns-clause-counts : goal.returns-clause-counts
+returns-clause-counts g c was =
+    let all : c.into_iter-slot-iterator.result.rest.items ≡ c.args.slots.items = search rules in
+    let P = λ (s : Slot g.row.L.Denot g.row.T.Denot g.row.N-Door.Denot g.row.N-Clock.Denot g.row.N-Salt.Denot g.row.N-Sights.Denot g.row.N-Door-Link.Denot g.row.N-Door-Link-In.Denot g.row.N-Door-Link-Out.Denot g.L.LimitsName). CountsAs 0 (g.N.Door.Door.faults s.door) s.stop in
+    let (rest, so) = c.loop-slot.invariant.counts (All-same P _ _ all was) in
     so
 
 pub returns-clause-done : goal.returns-clause-done

@@ -8,7 +8,7 @@ use Rattle.connection_laws.specs.Knowing.{KnowsMore}
 use Rattle.pk_outside.specs.Doors.{DoorTold}
 use Rattle.service_slots.specs.Doors.{DoorsAreDone}
 use Rattle.service_slots.specs.Served.{SlotOf, SlotsOf}
-use Rattle.service_slots.specs.Stops.{HasServedAll, IsStopped, StopTells}
+use Rattle.service_slots.specs.Stops.{CountsAs, HasServedAll, IsStopped, StopTells}
 use Rattle.authority_service.specs.Shutting.{ShutsAll}
 use Rattle.authority_service.proofs.shutting.shut_slots.Given as goal
 
@@ -30,6 +30,9 @@ invariant-loop-slot g l = record {
       → All (λ s. IsStopped g.L.LimitsName.limits most s.pass (g.N.Door.Door.told s.door) (g.N.Door.Door.faults s.door) s.lines.items s.stop) l.initial.slot-iterator.rest.items
       → All (λ s. IsStopped g.L.LimitsName.limits most s.pass (g.N.Door.Door.told s.door) (g.N.Door.Door.faults s.door) s.lines.items s.stop) l.slot-iterator.rest.items
       × All (λ s. StopTells g.L.LimitsName.limits most l.control (g.N.Station.faults l.initial.station) (g.N.Station.faults l.station) s.lines.items s.stop) l.shut.items;
+  counts : All (λ s. CountsAs 0 (g.N.Door.Door.faults s.door) s.stop) l.initial.slot-iterator.rest.items
+      → All (λ s. CountsAs 0 (g.N.Door.Door.faults s.door) s.stop) l.slot-iterator.rest.items
+      × (All (λ s. HasServedAll s.stop) l.shut.items → g.N.Station.faults l.station ≡ g.N.Station.faults l.initial.station);
   done : (most : Option ℕ)
       → All (λ s. SlotOf s.pass.history (g.N.Door.Door.owner s.door) (g.N.Door.Door.told s.door) (g.N.Clock.Clock.gave s.clock) (g.N.Salt.Salt.gave s.salt) s.lines.items) l.initial.slot-iterator.rest.items
       → All (λ s. IsStopped g.L.LimitsName.limits most s.pass (g.N.Door.Door.told s.door) (g.N.Door.Door.faults s.door) s.lines.items s.stop) l.initial.slot-iterator.rest.items

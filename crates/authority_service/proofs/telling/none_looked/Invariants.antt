@@ -1,5 +1,5 @@
 -- The lines so far.
-use Rattle.std.proofs.Common.{List, take}
+use Rattle.std.proofs.Common.{take}
 use Rattle.std.specs.Prelude.{All}
 use Rattle.authority_service.specs.Looks.{NeverLooked}
 use Rattle.authority_service.proofs.telling.none_looked.Given as goal

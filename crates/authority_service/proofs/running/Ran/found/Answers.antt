@@ -1,4 +1,4 @@
-use Rattle.std.proofs.Common.{rules, subst}
+use Rattle.std.proofs.Common.{rules}
 use Rattle.authority_service.proofs.running.Ran.found.Goals as goal
 
 pub returns-clause-sound : goal.returns-clause-sound

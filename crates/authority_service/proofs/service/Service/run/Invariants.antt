@@ -1,4 +1,4 @@
-use Rattle.authority_service.proofs.top.run_named.Given as goal
+use Rattle.authority_service.proofs.service.Service.run.Given as goal
 
 -- the table that was just opened
 abbrev pub ghosts-run_tabled : goal.ghosts-run_tabled
