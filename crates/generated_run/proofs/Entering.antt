@@ -6,13 +6,9 @@ use Rattle.std.proofs.Math.Seq.{get_or-append_seam}
 use Rattle.authority_model.specs.declared.journal.Entry.{Entry}
 use Rattle.authority_model.specs.declared.journal.History.{History}
 use Rattle.authority_model.specs.declared.journal.Item.{Item}
-use Rattle.authority_core.specs.declared.authority.LoadStepRefused.{LoadStepRefused}
-use Rattle.authority_core.specs.declared.authority.LoadStepRefused.TheVariants as load_refused
-use Rattle.authority_core.specs.declared.authority.StepRefused.{StepRefused}
-use Rattle.authority_core.specs.declared.authority.StepRefused.TheVariants as step_refused
-use Rattle.authority_core.specs.Refusals.{IsFullAt, IsLoadRefused, IsStepRefused}
-use Rattle.authority_model.specs.declared.event.Event.{Event}
-use Rattle.authority_model.specs.declared.load.Loaded.{Loaded}
+use Rattle.authority_core.specs.declared.halt.Halt.{Halt}
+use Rattle.authority_core.specs.declared.halt.Halt.TheVariants.{Full, NoMemory}
+use Rattle.authority_core.specs.Refusals.{IsHalted}
 use Rattle.authority_model.specs.declared.journal.Limits.{Limits}
 use Rattle.authority_model.specs.Entering.{counted_bytes, is_full}
 use Rattle.authority_model.specs.Given.{Given, next, load_given}
@@ -20,7 +16,6 @@ use Rattle.authority_model.specs.Items.{items_of}
 use Rattle.generated_run.specs.declared.run.Run.{Run}
 use Rattle.generated_run.specs.Run.{entered, each_entered, connects, registers, root_connects, set_up, checked, generated}
 use Rattle.generated_run.specs.Setup.{setup}
-use Rattle.generated_run.specs.declared.refused.RunRefused.TheVariants as refused
 use Rattle.generated_run.specs.Stops.{StopsIn}
 use Rattle.generated_run.specs.Kept.{Has}
 use Rattle.generated_run.specs.Summaries.{summary_of}
@@ -71,22 +66,13 @@ none_generated run has = subst (λ p. Has p run) (sym generated_none) has
 pub one_more_generated : (k : ℕ) (run : Run) → Has (checked k (generated k)) run → Has (generated (k + 1)) run
 one_more_generated k run has = subst (λ p. Has p run) (sym (generated_more k)) has
 
--- the journal was full before this
-pub full_before : (past : List Item) (run : Run) (g : Given) (entries bytes : ℕ) → Has past run → IsFullAt run.authority entries bytes → StopsIn (entered past g) (refused.JournalFull entries bytes)
-full_before past run g entries bytes has full = record {
+-- the journal halted before this
+pub halted_before : (past : List Item) (run : Run) (g : Given) (halt : Halt) → Has past run → IsHalted run.authority halt → StopsIn (entered past g) halt
+halted_before past run g (Full full) has is = record {
   past = past;
   due = record { item = next past g; more = []; whole = entered_is past g };
-  full = ap (λ (l : Limits). is_full l past) (sym has.limits) ∙ ap (is_full run.authority.limits) (sym has.items) ∙ full.full;
-  entries_are = full.entries_are ∙ ap length has.items;
-  bytes_are = full.bytes_are ∙ ap counted_bytes has.items;
+  full = ap (λ (l : Limits). is_full l past) (sym has.limits) ∙ ap (is_full run.authority.limits) (sym has.items) ∙ is.full;
+  entries_are = is.entries_are ∙ ap length has.items;
+  bytes_are = is.bytes_are ∙ ap counted_bytes has.items;
 }
-
--- the journal refused an event
-pub step_full : (past : List Item) (run : Run) (g : Given) (event back : Event) (r : StepRefused) (entries bytes : ℕ) → r ≡ step_refused.JournalFull entries bytes back → Has past run
-    → IsStepRefused run.authority event r → StopsIn (entered past g) (refused.JournalFull entries bytes)
-step_full past run g event back r entries bytes is has full = full_before past run g entries bytes has (subst (IsStepRefused run.authority event) is full).0
-
--- the journal refused a load
-pub load_full : (past : List Item) (run : Run) (g : Given) (loaded back : Loaded) (r : LoadStepRefused) (entries bytes : ℕ) → r ≡ load_refused.JournalFull entries bytes back → Has past run
-    → IsLoadRefused run.authority loaded r → StopsIn (entered past g) (refused.JournalFull entries bytes)
-load_full past run g loaded back r entries bytes is has full = full_before past run g entries bytes has (subst (IsLoadRefused run.authority loaded) is full).0
+halted_before past run g NoMemory has is = tt

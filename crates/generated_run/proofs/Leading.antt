@@ -7,8 +7,8 @@ use Rattle.std.proofs.lemmas.Bool.{cases_lt}
 use Rattle.authority_model.specs.declared.journal.Item.{Item}
 use Rattle.authority_model.specs.Given.{Given, event_given, load_given, next}
 use Rattle.generated_run.specs.declared.asked.Asked.{Asked}
-use Rattle.generated_run.specs.declared.refused.RunRefused.{RunRefused}
-use Rattle.generated_run.specs.declared.refused.RunRefused.TheVariants as refused
+use Rattle.authority_core.specs.declared.halt.Halt.{Halt}
+use Rattle.authority_core.specs.declared.halt.Halt.TheVariants.{Full, NoMemory}
 use Rattle.generated_run.specs.Run.{entered, each_entered, connects, registers, root_connects, set_up, asked_last, caller_of, check, response, dismissed, authenticated, answered, followed, checked, generated}
 use Rattle.generated_run.specs.Setup.{setup}
 use Rattle.generated_run.specs.Stops.{StopsIn}
@@ -28,8 +28,8 @@ pub leads_entered : (past : List Item) (g : Given) → Leads past (entered past 
 leads_entered past g = (next past g ∷ [], entered_is past g)
 
 -- what stops a prefix stops the run
-pub stops_later : (a b : List Item) (r : RunRefused) → Leads a b → StopsIn a r → StopsIn b r
-stops_later a b (refused.JournalFull entries bytes) p is = record {
+pub stops_later : (a b : List Item) (r : Halt) → Leads a b → StopsIn a r → StopsIn b r
+stops_later a b (Full full) p is = record {
   past = is.past;
   due = record {
     item = is.due.item;
@@ -40,7 +40,7 @@ stops_later a b (refused.JournalFull entries bytes) p is = record {
   entries_are = is.entries_are;
   bytes_are = is.bytes_are;
 }
-stops_later a b refused.NoMemory p is = tt
+stops_later a b NoMemory p is = tt
 
 -- up to a later one of events that are entered one after another
 pub leads_each : (given : ℕ → Given) (past : List Item) (i n : ℕ) → i ≤ n → Leads (each_entered given i past) (each_entered given n past)
@@ -124,6 +124,6 @@ pub checked_leads : (k n : ℕ) → k < n → Leads (checked k (generated k)) (g
 checked_leads k n below = subst (λ r. Leads r (generated n)) (generated_more k) (leads_generated (k + 1) n (omega arith))
 
 -- what stopped a step of the run stops the run
-pub err_stops : {A : Type 0} (r : Result A RunRefused) (e : RunRefused) (a b : List Item) → IsErrAnd r (λ (y : RunRefused). y ≡ e) → Leads a b → StopsIn a e → IfErr r (StopsIn b)
+pub err_stops : {A : Type 0} (r : Result A Halt) (e : Halt) (a b : List Item) → IsErrAnd r (λ (y : Halt). y ≡ e) → Leads a b → StopsIn a e → IfErr r (StopsIn b)
 err_stops (Ok x) e a b is leads stops = absurd is
 err_stops (Err y) e a b is leads stops = subst (StopsIn b) (sym is) (stops_later a b e leads stops)

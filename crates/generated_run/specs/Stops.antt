@@ -2,8 +2,8 @@
 use Rattle.std.specs.Prelude.{◌≡◌, ℕ, List, ◌∷◌, ◌++◌, length, true}
 use Rattle.authority_model.specs.declared.journal.Item.{Item}
 use Rattle.authority_model.specs.Entering.{counted_bytes, greatest_limits, is_full}
-use Rattle.generated_run.specs.declared.refused.RunRefused.{RunRefused}
-use Rattle.generated_run.specs.declared.refused.RunRefused.TheVariants as refused
+use Rattle.authority_core.specs.declared.halt.Halt.{Halt}
+use Rattle.authority_core.specs.declared.halt.Halt.TheVariants.{Full, NoMemory}
 
 -- The run has these items, and at least one more after them.
 pub record GoesOn (run past : List Item) : Type 0 where
@@ -20,6 +20,6 @@ pub record IsFullIn (run : List Item) (entries bytes : ℕ) : Type 0 where
   pub bytes_are : bytes ≡ counted_bytes past
 
 -- the run was stopped; want of memory is free
-abbrev pub StopsIn : List Item → RunRefused → Type 0
-StopsIn run (refused.JournalFull entries bytes) = IsFullIn run entries bytes
-StopsIn run refused.NoMemory = Unit {0}
+abbrev pub StopsIn : List Item → Halt → Type 0
+StopsIn run (Full full) = IsFullIn run full.entries full.bytes
+StopsIn run NoMemory = Unit {0}

@@ -7,12 +7,10 @@
 
 mod asked;
 mod events;
-mod refused;
 mod run;
 mod setup;
 mod summary;
 mod texts;
 
-pub use refused::RunRefused;
 pub use run::generate;
 pub use summary::{Summary, summary_line};

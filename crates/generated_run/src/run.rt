@@ -12,10 +12,9 @@ ghost use Rattle.generated_run.specs.Summaries.{summary_of};
 
 use crate::asked::{Asked, after, asked_in};
 use crate::events::{cancelled, check, registration, response};
-use crate::refused::RunRefused;
 use crate::setup::setup;
 use crate::summary::Summary;
-use authority_core::{Authority, Limits, LoadStepRefused, StepRefused};
+use authority_core::{Authority, Halt, Limits};
 use authority_model::{Event, Loaded};
 use pk_types::NoMemory;
 use std::alloc::Global;
@@ -46,7 +45,7 @@ impl Run {
     }
 
     /// Adds the entry of a load by connection 0 at moment 0.
-    fn load(&mut self, loaded: Loaded) -> Result<(), RunRefused>
+    fn load(&mut self, loaded: Loaded) -> Result<(), Halt>
         ensures ok { (past : List Item) → Has past self.old → OnOk result (Has (entered past (load_given 0 0 loaded)) self.new) }
         ensures stop { (past : List Item) → Has past self.old → IfErr result (StopsIn (entered past (load_given 0 0 loaded))) }
     {
@@ -58,15 +57,16 @@ impl Run {
                 self.summary.add(entry)?;
                 Ok(())
             }
-            Err(LoadStepRefused::JournalFull { entries, bytes, .. }) => {
-                Err(RunRefused::JournalFull { entries, bytes })
+            Err(refused) => {
+                let (halt, loaded) = refused.into_parts();
+                drop(loaded);
+                Err(halt)
             }
-            Err(LoadStepRefused::NoMemory { .. }) => Err(RunRefused::NoMemory),
         }
     }
 
     /// Adds the entry of an event, and answers what it asks of its caller.
-    fn enter(&mut self, caller: u32, moment: u64, event: Event) -> Result<Option<Asked>, RunRefused>
+    fn enter(&mut self, caller: u32, moment: u64, event: Event) -> Result<Option<Asked>, Halt>
         requires event { IsStepped event }
         requires moment { moment ≤ 2 ^ 62 }
         ensures ok { (past : List Item) → Has past self.old → OnOk result (Has (entered past (event_given caller moment 0 event)) self.new) }
@@ -83,16 +83,17 @@ impl Run {
                 self.summary.add(entry)?;
                 Ok(asked)
             }
-            Err(StepRefused::JournalFull { entries, bytes, .. }) => {
-                Err(RunRefused::JournalFull { entries, bytes })
+            Err(refused) => {
+                let (halt, event) = refused.into_parts();
+                drop(event);
+                Err(halt)
             }
-            Err(StepRefused::NoMemory { .. }) => Err(RunRefused::NoMemory),
         }
     }
 
     /// The users connect.
     #[tactic(auto, using(crate::proofs::Entering::none_entered, crate::proofs::Entering::one_more_entered))]
-    fn connect_users(&mut self) -> Result<(), RunRefused>
+    fn connect_users(&mut self) -> Result<(), Halt>
         ensures ok { (past : List Item) → Has past self.old → OnOk result (Has (each_entered connects 8 past) self.new) }
         ensures stop { (past : List Item) → Has past self.old → IfErr result (StopsIn (each_entered connects 8 past)) }
     {
@@ -104,7 +105,7 @@ impl Run {
 
     /// Each user registers an agent.
     #[tactic(auto, using(crate::proofs::Entering::none_entered, crate::proofs::Entering::one_more_entered))]
-    fn register_agents(&mut self) -> Result<(), RunRefused>
+    fn register_agents(&mut self) -> Result<(), Halt>
         ensures ok { (past : List Item) → Has past self.old → OnOk result (Has (each_entered registers 8 past) self.new) }
         ensures stop { (past : List Item) → Has past self.old → IfErr result (StopsIn (each_entered registers 8 past)) }
     {
@@ -117,7 +118,7 @@ impl Run {
 
     /// Sets up a run that is empty.
     #[tactic(auto, using(crate::proofs::Entering::is_set_up))]
-    fn set_up(&mut self) -> Result<(), RunRefused>
+    fn set_up(&mut self) -> Result<(), Halt>
         ensures ok { Has [] self.old → OnOk result (Has set_up self.new) }
         ensures stop { Has [] self.old → IfErr result (StopsIn set_up) }
     {
@@ -129,7 +130,7 @@ impl Run {
     }
 
     /// The user dismisses the dialogue of the k-th check.
-    fn dismiss(&mut self, k: u32, asked: Asked) -> Result<(), RunRefused>
+    fn dismiss(&mut self, k: u32, asked: Asked) -> Result<(), Halt>
         requires { k < 100000 }
         ensures ok { (past : List Item) → Has past self.old → OnOk result (Has (dismissed k past asked) self.new) }
         ensures stop { (past : List Item) → Has past self.old → IfErr result (StopsIn (dismissed k past asked)) }
@@ -144,7 +145,7 @@ impl Run {
     }
 
     /// The user is authenticated in the dialogue of the k-th check, and the agent returns.
-    fn authenticate(&mut self, k: u32, asked: Asked) -> Result<(), RunRefused>
+    fn authenticate(&mut self, k: u32, asked: Asked) -> Result<(), Halt>
         requires { k < 100000 }
         ensures ok { (past : List Item) → Has past self.old → OnOk result (Has (authenticated k past asked) self.new) }
         ensures stop { (past : List Item) → Has past self.old → IfErr result (StopsIn (authenticated k past asked)) }
@@ -159,7 +160,7 @@ impl Run {
     }
 
     /// What follows where the k-th check asks.
-    fn answer(&mut self, k: u32, asked: Asked) -> Result<(), RunRefused>
+    fn answer(&mut self, k: u32, asked: Asked) -> Result<(), Halt>
         requires { k < 100000 }
         ensures ok { (past : List Item) → Has past self.old → OnOk result (Has (answered k past asked) self.new) }
         ensures stop { (past : List Item) → Has past self.old → IfErr result (StopsIn (answered k past asked)) }
@@ -172,7 +173,7 @@ impl Run {
     }
 
     /// The k-th check with its dialogue.
-    fn check(&mut self, k: u32) -> Result<(), RunRefused>
+    fn check(&mut self, k: u32) -> Result<(), Halt>
         requires { k < 100000 }
         ensures ok { (past : List Item) → Has past self.old → OnOk result (Has (checked k past) self.new) }
         ensures stop { (past : List Item) → Has past self.old → IfErr result (StopsIn (checked k past)) }
@@ -186,7 +187,7 @@ impl Run {
 
     /// Sets up a run that is empty, and runs so many checks.
     #[tactic(auto, using(crate::proofs::Entering::none_generated, crate::proofs::Entering::one_more_generated))]
-    fn generate(&mut self, n: u32) -> Result<(), RunRefused>
+    fn generate(&mut self, n: u32) -> Result<(), Halt>
         requires { n ≤ 100000 }
         ensures ok { Has [] self.old → OnOk result (Has (generated n) self.new) }
         ensures stop { Has [] self.old → IfErr result (StopsIn (generated n)) }
@@ -215,9 +216,9 @@ impl Run {
 /// The run is a legal history, in which each yes is licensed.
 ///
 /// # Errors
-/// 1 `JournalFull` only where a journal of the greatest limits is full after entries of this run,
+/// 1 `Full` only where a journal of the greatest limits is full after entries of this run,
 /// and a further one is due; 2 `NoMemory`.
-pub fn generate(alloc: Global, n: u32) -> Result<Summary, RunRefused>
+pub fn generate(alloc: Global, n: u32) -> Result<Summary, Halt>
     requires { n ≤ 100000 }
     ensures summary { IfOk result (λ summary. summary ≡ summary_of (generated n)) }
     ensures legal { OnOk result (Legal (generated n)) }

@@ -133,9 +133,9 @@ front_with {now = now} lv new added =
 -- it stopped the run
 stopped_leaving : {s : Start} {now : Standing} {clock salt : Supply} {l0 l : Option (List ℕ)} {ended : Bool} {g : Given} (lv : IsLeaving s now clock salt l0 l ended g) (new : Service) (why : Stopped) → now.service.unsent ≡ [] → Legal new.past
     → Answers now.service g new (Err why) → Pipes s.opening s.limits s.faults now.faults (traffic l0 l ended s.held now.held s.clock clock s.salt salt) (end_of why)
-stopped_leaving {s = s} {g = g} lv new (stopped.JournalFull entries bytes) none legal a =
+stopped_leaving {s = s} {g = g} lv new (stopped.Full full) none legal a =
     let st = lv.running.stage in
-    not_entered lv (end.JournalFull entries bytes) none (
+    not_entered lv (end.Full full) none (
       record {
         last = g;
         refused = refl;
@@ -166,7 +166,7 @@ left {s = s} {now = now} {g = g} lv new held unsent legal a out none =
 -- it was answered, and the write behind it failed
 unwritten_leaving : {s : Start} {now : Standing} {clock salt : Supply} {l0 l : Option (List ℕ)} {ended : Bool} {g : Given} (lv : IsLeaving s now clock salt l0 l ended g) (new : Service) (held : Option (List ℕ)) (unsent : List ℕ) (why : Stopped)
     → OnlyWriting {A = Unit {0}} (Err why) → Legal new.past → Answers now.service g new (Ok tt) → GotUpTo now.held held new.unsent unsent → Pipes s.opening s.limits s.faults now.faults (traffic l0 l ended s.held held s.clock clock s.salt salt) (end_of why)
-unwritten_leaving lv new held unsent (stopped.JournalFull entries bytes) writing legal a out = absurd writing
+unwritten_leaving lv new held unsent (stopped.Full full) writing legal a out = absurd writing
 unwritten_leaving {s = s} {now = now} lv new held unsent stopped.WriteFault writing legal a out =
     let p = posted_out s.held now.held held new.unsent unsent _ (posted_with lv new a) out in
     entered lv new held end.WriteFault p.written a.0 legal p.got (inr (departed lv new p.written a.0), refl, posted_front p, refl)

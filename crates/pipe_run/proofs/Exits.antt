@@ -37,7 +37,7 @@ abbrev story_of : (read rest : List ℕ) → Halt → Story
 story_of read rest h = record { read = read; rest = rest; given = h.given; refused = h.refused; progress = h.progress; written = h.written }
 
 tells_of : (s : Start) (faults : ℕ) (ended : Bool) (read rest : List ℕ) (h : Halt) (why : Stopped) → Follow read h.progress.messages rest → HaltedBy s faults h why → Tells s.opening s.limits s.faults faults ended (story_of read rest h) (end_of why)
-tells_of s faults ended read rest h (stopped.JournalFull entries bytes) f by = (
+tells_of s faults ended read rest h (stopped.Full full) f by = (
   record {
     last = by.0.last;
     refused = by.0.refused;
@@ -136,7 +136,7 @@ no_memory s now messages read rest left_before left ended st f gave =
 -- a write failed between two messages
 pub write_fault : (s : Start) (now : Standing) (messages : List Seen) (read rest : List ℕ) (left_before left : Option (List ℕ)) (ended : Bool) (why : Stopped) → OnlyWriting {A = Unit {0}} (Err why) → Stage s now messages → Follow read messages rest
     → Gave left_before left read → Pipes s.opening s.limits s.faults now.faults (traffic left_before left ended s.held now.held s.clock now.clock s.salt now.salt) (end_of why)
-write_fault s now messages read rest left_before left ended (stopped.JournalFull entries bytes) writing st f gave = absurd writing
+write_fault s now messages read rest left_before left ended (stopped.Full full) writing st f gave = absurd writing
 write_fault s now messages read rest left_before left ended stopped.WriteFault writing st f gave =
     at_stage s now messages read rest st.posted.written left_before left ended end.WriteFault st gave st.posted.got
     (inl (record { follow = f; handed = st.handed }), refl, some_written s now messages st, refl)

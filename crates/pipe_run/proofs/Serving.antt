@@ -63,13 +63,13 @@ partial_at bytes pending same partial = ap next_of (sym same) ∙ sym partial
 
 -- an end at something that was handed in is no read fault
 pub stopped_reads : {S : Type 0} (left : S → Option (List ℕ)) (faults : S → ℕ) (before now : S) (why : Stopped) → faults now ≡ faults before → InputFaults left faults before now (end_of why)
-stopped_reads left faults before now (stopped.JournalFull entries bytes) quiet = quiet
+stopped_reads left faults before now (stopped.Full full) quiet = quiet
 stopped_reads left faults before now stopped.WriteFault quiet = quiet
 stopped_reads left faults before now stopped.NoMemory quiet = quiet
 
 -- and has the write fault of that
 pub stopped_writes : {S : Type 0} (held : S → Option (List ℕ)) (faults : S → ℕ) (first before now : S) (why : Stopped) → faults before ≡ faults first → FaultIn held faults before now why → OutputFaults held faults first now (end_of why)
-stopped_writes held faults first before now (stopped.JournalFull entries bytes) quiet writes = writes ∙ quiet
+stopped_writes held faults first before now (stopped.Full full) quiet writes = writes ∙ quiet
 stopped_writes held faults first before now stopped.WriteFault quiet writes = fails_later held faults first before now quiet writes
 stopped_writes held faults first before now stopped.NoMemory quiet writes = writes ∙ quiet
 
@@ -78,7 +78,7 @@ pub unread_reads : {S : Type 0} (left : S → Option (List ℕ)) (faults : S →
 unread_reads left faults before now end.ReadFault unread quiet = absurd unread
 unread_reads left faults before now end.Done unread quiet = quiet
 unread_reads left faults before now end.WriteFault unread quiet = quiet
-unread_reads left faults before now (end.JournalFull entries bytes) unread quiet = quiet
+unread_reads left faults before now (end.Full full) unread quiet = quiet
 unread_reads left faults before now (end.BadBytes kind at) unread quiet = quiet
 unread_reads left faults before now (end.Truncated rest) unread quiet = quiet
 unread_reads left faults before now end.NoMemory unread quiet = quiet
@@ -88,7 +88,7 @@ pub outputs_later : {S : Type 0} (held : S → Option (List ℕ)) (faults : S �
 outputs_later held faults first before now end.WriteFault quiet writes = fails_later held faults first before now quiet writes
 outputs_later held faults first before now end.Done quiet writes = writes ∙ quiet
 outputs_later held faults first before now end.ReadFault quiet writes = writes ∙ quiet
-outputs_later held faults first before now (end.JournalFull entries bytes) quiet writes = writes ∙ quiet
+outputs_later held faults first before now (end.Full full) quiet writes = writes ∙ quiet
 outputs_later held faults first before now (end.BadBytes kind at) quiet writes = writes ∙ quiet
 outputs_later held faults first before now (end.Truncated rest) quiet writes = writes ∙ quiet
 outputs_later held faults first before now end.NoMemory quiet writes = writes ∙ quiet

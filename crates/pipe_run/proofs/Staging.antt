@@ -8,6 +8,7 @@ use Rattle.authority_model.specs.Entering.{counted_bytes, is_full}
 use Rattle.authority_model.specs.Given.{Given, history_of, next}
 use Rattle.authority_model.specs.Items.{sent}
 use Rattle.authority_model.specs.Legal.{Legal}
+use Rattle.authority_core.specs.declared.halt.Fullness.{Fullness}
 use Rattle.pipe_run.specs.declared.ends.Stopped.{Stopped}
 use Rattle.pipe_run.specs.declared.ends.Stopped.TheVariants as stopped
 use Rattle.pipe_run.specs.declared.served.TheConstants.{CONNECTION}
@@ -95,9 +96,9 @@ kept_legal : (s : Start) (now : Standing) (messages : List Seen) (st : Stage s n
 kept_legal s now messages st = subst Legal st.past st.legal
 
 -- the journal was full, and all was written before
-filled : (s : Start) (now new : Standing) (messages with_it : List Seen) (g : Given) (entries bytes : ℕ) (st : Stage s now messages) → IsNextGiven s now new messages with_it g → IsFilled now.service new.service entries bytes → new.held ≡ now.held
-    → now.service.unsent ≡ [] → Halted s new messages with_it (stopped.JournalFull entries bytes)
-filled s now new messages with_it g entries bytes st n f same none = record {
+filled : (s : Start) (now new : Standing) (messages with_it : List Seen) (g : Given) (full : Fullness) (st : Stage s now messages) → IsNextGiven s now new messages with_it g → IsFilled now.service new.service full.entries full.bytes → new.held ≡ now.held
+    → now.service.unsent ≡ [] → Halted s new messages with_it (stopped.Full full)
+filled s now new messages with_it g full st n f same none = record {
   halt = record { given = st.given; refused = Some g; progress = progress with_it new.faults; written = sent_bytes CONNECTION (history_of st.given) };
   messages = inr refl;
   legal = kept_legal s now messages st;
@@ -186,14 +187,14 @@ staged_out s old new faults clock salt held held_after messages w st = record {
 
 -- where a write fails, nothing but that stops the run
 pub unwritten : (s : Start) (now : Standing) (messages with_it : List Seen) (why : Stopped) → OnlyWriting {A = Unit {0}} (Err why) → Stage s now messages → Halted s now messages with_it why
-unwritten s now messages with_it (stopped.JournalFull entries bytes) writing st = absurd writing
+unwritten s now messages with_it (stopped.Full full) writing st = absurd writing
 unwritten s now messages with_it stopped.WriteFault writing st = write_failed s now messages with_it st
 unwritten s now messages with_it stopped.NoMemory writing st = absurd writing
 
 -- what was due stopped the run
 stop : (s : Start) (now new : Standing) (messages with_it : List Seen) (g : Given) (why : Stopped) → Stage s now messages → IsNextGiven s now new messages with_it g → new.held ≡ now.held → IsReady now.service
     → Answers now.service g new.service (Err why) → Legal new.service.past → Halted s new messages with_it why
-stop s now new messages with_it g (stopped.JournalFull entries bytes) st n same ready a legal = filled s now new messages with_it g entries bytes st n a same (ready a.full)
+stop s now new messages with_it g (stopped.Full full) st n same ready a legal = filled s now new messages with_it g full st n a same (ready a.full)
 stop s now new messages with_it g stopped.WriteFault st n same ready a legal = absurd a
 stop s now new messages with_it g stopped.NoMemory st n same ready (inl a) legal = refused_memory s now new messages with_it g st n same
 stop s now new messages with_it g stopped.NoMemory st n same ready (inr a) legal = entered_memory s now new messages with_it g st n same a legal

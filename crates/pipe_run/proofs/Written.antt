@@ -63,7 +63,7 @@ fails_later content faults first before now quiet failed = record { moment = fai
 
 -- the same of what is written
 pub fault_later : {S : Type 0} (held : S → Option (List ℕ)) (faults : S → ℕ) (first before now : S) (why : Stopped) → faults before ≡ faults first → FaultIn held faults before now why → FaultIn held faults first now why
-fault_later held faults first before now (stopped.JournalFull entries bytes) quiet writes = writes ∙ quiet
+fault_later held faults first before now (stopped.Full full) quiet writes = writes ∙ quiet
 fault_later held faults first before now stopped.WriteFault quiet writes = fails_later held faults first before now quiet writes
 fault_later held faults first before now stopped.NoMemory quiet writes = writes ∙ quiet
 

@@ -51,7 +51,7 @@ pub record IsFilled (old new : Service) (entries bytes : ℕ) : Type 0 where
 -- it was entered, or refused
 abbrev pub Submits : Service → Given → Service → Result (Unit {0}) Stopped → Type 0
 Submits old g new (Ok done) = IsAdded old g new × (new.sent ≡ old.sent) × (new.unsent ≡ old.unsent)
-Submits old g new (Err (stopped.JournalFull entries bytes)) = IsFilled old new entries bytes
+Submits old g new (Err (stopped.Full full)) = IsFilled old new full.entries full.bytes
 Submits old g new (Err stopped.WriteFault) = ⊥
 Submits old g new (Err stopped.NoMemory) = new ≡ old
 
@@ -62,7 +62,7 @@ IsReady service = is_full service.limits service.past ≡ true → service.unsen
 -- it was entered, and what it sends to the connection is kept to be written; or this stopped it
 abbrev pub Answers : Service → Given → Service → Result (Unit {0}) Stopped → Type 0
 Answers old g new (Ok done) = IsAdded old g new × (new.sent ≡ sent new.past CONNECTION) × (new.unsent ≡ old.unsent ++ newest_bytes CONNECTION new.past)
-Answers old g new (Err (stopped.JournalFull entries bytes)) = IsFilled old new entries bytes
+Answers old g new (Err (stopped.Full full)) = IsFilled old new full.entries full.bytes
 Answers old g new (Err stopped.WriteFault) = ⊥
 Answers old g new (Err stopped.NoMemory) = (new ≡ old) ⊎ IsAdded old g new
 
@@ -76,14 +76,14 @@ pub record IsWrittenOut (old : Service) (held : Option (List ℕ)) (new : Servic
 -- nothing but want of memory stops it
 abbrev pub OnlyMemory : {A : Type 0} → Result A Stopped → Type 0
 OnlyMemory (Ok done) = Unit {0}
-OnlyMemory (Err (stopped.JournalFull entries bytes)) = ⊥
+OnlyMemory (Err (stopped.Full full)) = ⊥
 OnlyMemory (Err stopped.WriteFault) = ⊥
 OnlyMemory (Err stopped.NoMemory) = Unit {0}
 
 -- nothing but a write fault stops it
 abbrev pub OnlyWriting : {A : Type 0} → Result A Stopped → Type 0
 OnlyWriting (Ok done) = Unit {0}
-OnlyWriting (Err (stopped.JournalFull entries bytes)) = ⊥
+OnlyWriting (Err (stopped.Full full)) = ⊥
 OnlyWriting (Err stopped.WriteFault) = Unit {0}
 OnlyWriting (Err stopped.NoMemory) = ⊥
 

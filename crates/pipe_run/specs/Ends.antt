@@ -96,8 +96,8 @@ Tells o limits start faults ended s (end.BadBytes kind at) =
     IsAnswered o limits start s s.given × (next_of s.rest ≡ Bad kind at) × (s.refused ≡ None) × IsAllWritten s × (s.progress.faults ≡ faults)
 Tells o limits start faults ended s (end.Truncated rest) =
     IsAnswered o limits start s s.given × (next_of s.rest ≡ Partial) × IsTrue ended × (rest ≡ length s.rest) × (0 < rest) × (s.refused ≡ None) × IsAllWritten s × (s.progress.faults ≡ faults)
-Tells o limits start faults ended s (end.JournalFull entries bytes) =
-    IsFull o limits start ended s entries bytes × IsAllWritten s × (s.progress.faults ≡ faults)
+Tells o limits start faults ended s (end.Full full) =
+    IsFull o limits start ended s full.entries full.bytes × IsAllWritten s × (s.progress.faults ≡ faults)
 Tells o limits start faults ended s end.WriteFault =
     IsUnderWay o limits start ended s × (s.refused ≡ None) × IsFront s.written (sent_bytes CONNECTION (history s)) × (s.progress.faults ≡ faults)
 Tells o limits start faults ended s end.NoMemory =

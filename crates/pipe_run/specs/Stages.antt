@@ -81,7 +81,7 @@ pub record IsHaltedFull (s : Start) (h : Halt) (entries bytes : ℕ) : Type 0 wh
 
 -- what stopped it, where the tree failed so often
 abbrev pub HaltedBy : Start → ℕ → Halt → Stopped → Type 0
-HaltedBy s faults h (stopped.JournalFull entries bytes) = IsHaltedFull s h entries bytes × (h.progress.faults ≡ faults)
+HaltedBy s faults h (stopped.Full full) = IsHaltedFull s h full.entries full.bytes × (h.progress.faults ≡ faults)
 HaltedBy s faults h stopped.WriteFault =
     AreHandedIn s.opening s.limits s.faults h.given h.progress × (h.refused ≡ None) × IsFront h.written (sent_bytes CONNECTION (history_of h.given)) × (h.progress.faults ≡ faults)
 HaltedBy s faults h stopped.NoMemory =

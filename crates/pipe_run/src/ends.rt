@@ -1,4 +1,5 @@
 // How a run ends, and what stops it.
+use authority_core::{Fullness, Halt};
 use dbus_values::FaultKind;
 use pk_outside::Failed;
 use pk_types::NoMemory;
@@ -12,9 +13,8 @@ pub enum PipeEnd {
     ReadFault,
     /// The output counted a fault.
     WriteFault,
-    /// A further entry was due, and the journal had reached a limit. It has this many entries and
-    /// counted bytes.
-    JournalFull { entries: u64, bytes: u64 },
+    /// A further entry was due, and the journal had reached a limit. It is this full.
+    Full(Fullness),
     /// Behind the messages that were answered stands this fault, at this byte of the next message.
     BadBytes { kind: FaultKind, at: u64 },
     /// The input ended inside a message, after this many bytes of it.
@@ -26,8 +26,8 @@ pub enum PipeEnd {
 /// What stops a run at something that is handed in.
 #[derive(Clone, Copy, Debug, PartialEq, Eq)]
 pub enum Stopped {
-    /// The journal had reached a limit. It has this many entries and counted bytes.
-    JournalFull { entries: u64, bytes: u64 },
+    /// The journal had reached a limit. It is this full.
+    Full(Fullness),
     /// The output counted a fault.
     WriteFault,
     /// Memory was refused.
@@ -42,6 +42,20 @@ impl From<NoMemory> for Stopped {
 
     fn from(_: NoMemory) -> Self {
         Stopped::NoMemory
+    }
+}
+
+impl From<Halt> for Stopped {
+    ghost use Rattle.std.specs.Prelude.{◌≡◌};
+    ghost use Rattle.pipe_run.specs.Stops.{stopped_by};
+
+    ghost from_gives = { λ halt e. e ≡ stopped_by halt };
+
+    fn from(halt: Halt) -> Self {
+        match halt {
+            Halt::Full(full) => Stopped::Full(full),
+            Halt::NoMemory => Stopped::NoMemory,
+        }
     }
 }
 
@@ -65,7 +79,7 @@ impl Stopped {
         ensures end { result ≡ end_of self }
     {
         match self {
-            Stopped::JournalFull { entries, bytes } => PipeEnd::JournalFull { entries, bytes },
+            Stopped::Full(full) => PipeEnd::Full(full),
             Stopped::WriteFault => PipeEnd::WriteFault,
             Stopped::NoMemory => PipeEnd::NoMemory,
         }

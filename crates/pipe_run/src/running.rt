@@ -121,8 +121,8 @@ fn serve<T: Tree, C: Clock, S: Salt, I: Source, O: Sink>(
 ///
 /// # Errors
 /// `BadBytes` exactly where a message has a fault, with the first one and its place; `Truncated`
-/// exactly where the input ends inside a message; `JournalFull` exactly where a further entry was due
-/// and the journal had reached its limit of entries or of counted bytes; `ReadFault` and `WriteFault`
+/// exactly where the input ends inside a message; `Full` exactly where a further entry was due and the
+/// journal had reached its limit of entries or of counted bytes; `ReadFault` and `WriteFault`
 /// exactly where the input or the output counted a fault, which its last call did; `NoMemory`, which
 /// may come in place of any other answer.
 pub fn run_pipe<T: Tree, C: Clock, S: Salt, I: Source, O: Sink>(

@@ -14,7 +14,7 @@ ghost use Rattle.pipe_run.specs.Handed.{is_load_wanted, newest_wants_load};
 use crate::ends::Stopped;
 use crate::writing::put_outputs;
 use answer_outbox::Outbox;
-use authority_core::{Authority, LoadStepRefused, StepRefused};
+use authority_core::Authority;
 use authority_model::{Entry, Event, Limits, Loaded, Message, Output};
 use pk_outside::Sink;
 use pk_types::NoMemory;
@@ -114,11 +114,11 @@ impl Served {
     {
         match self.authority.step(caller, moment, salt, event) {
             Ok(_) => Ok(()),
-            Err(StepRefused::JournalFull { entries, bytes, .. }) => Err(Stopped::JournalFull {
-                entries,
-                bytes,
-            }),
-            Err(StepRefused::NoMemory { .. }) => Err(Stopped::NoMemory),
+            Err(refused) => {
+                let (halt, event) = refused.into_parts();
+                drop(event);
+                Err(Stopped::from(halt))
+            }
         }
     }
 
@@ -130,11 +130,11 @@ impl Served {
     {
         match self.authority.load(LOADER, moment, loaded) {
             Ok(_) => Ok(()),
-            Err(LoadStepRefused::JournalFull { entries, bytes, .. }) => Err(Stopped::JournalFull {
-                entries,
-                bytes,
-            }),
-            Err(LoadStepRefused::NoMemory { .. }) => Err(Stopped::NoMemory),
+            Err(refused) => {
+                let (halt, loaded) = refused.into_parts();
+                drop(loaded);
+                Err(Stopped::from(halt))
+            }
         }
     }
 

@@ -8,10 +8,13 @@ use Rattle.authority_model.specs.Given.{Given, event_given, next}
 use Rattle.authority_model.specs.Items.{items_of}
 use Rattle.authority_model.specs.Legal.{Legal}
 use Rattle.authority_core.specs.Journal.{Journal}
-use Rattle.authority_core.specs.Refusals.{IsFullAt}
+use Rattle.authority_core.specs.Refusals.{IsFullAt, IsHalted}
+use Rattle.authority_core.specs.declared.halt.Halt.{Halt}
+use Rattle.authority_core.specs.declared.halt.Halt.TheVariants as halt
 use Rattle.scenario_run.specs.declared.journal.Refused.{Refused}
 use Rattle.scenario_run.specs.declared.journal.Refused.TheVariants as refused
 use Rattle.scenario_run.specs.Journals.{IsDue}
+use Rattle.scenario_run.specs.Refusals.{refused_by}
 use Rattle.scenario_run.specs.Room.{IsInSegments, Keeping, all_entered, full_at, unless_full, whole}
 use Rattle.scenario_run.specs.Scene.{Outcome, Scene, first_load, given_for, handed_in, reached, with_past}
 use Rattle.scenario_run.specs.ScenarioRuns.{IsFilled, IsRefused}
@@ -105,8 +108,8 @@ filled_as s keeping keeping' draft moment past past' g full is same items legal 
 -- the journal refused what was handed in
 refused_as : (r : Refused) (s : Scene) (keeping keeping' : Keeping) (draft : Loaded) (moment : ℕ) (past past' : List Item) (g : Given) → seen keeping draft moment past ≡ s → keeping' ≡ keeping → past' ≡ past → Legal past'
     → IsDue keeping past r → IsRefused s (seen keeping' draft moment past') (handed_in s (g ∷ [])) r
-refused_as (refused.JournalFull entries bytes) s keeping keeping' draft moment past past' g is same items legal due =
-    filled_as s keeping keeping' draft moment past past' g (record { entries = entries; bytes = bytes }) is same items legal due
+refused_as (refused.Full full) s keeping keeping' draft moment past past' g is same items legal due =
+    filled_as s keeping keeping' draft moment past past' g (record { entries = full.entries; bytes = full.bytes }) is same items legal due
 refused_as refused.SegmentFault s keeping keeping' draft moment past past' g is same items legal due = subst (λ (t : Scene). IsInSegments t.keeping) is due
 refused_as refused.NoMemory s keeping keeping' draft moment past past' g is same items legal due = tt
 
@@ -143,13 +146,13 @@ event_entered (Err k) s s' t caller event e entered = entered
 pub event_refused : (r : Result (Unit {0}) Refused) (s s' t : Scene) (caller : ℕ) (event : Event) → handed_in s (first_load s s.past) ≡ reached s' → text_of s'.past ≡ text_of s.past
     → IfErr r (IsRefused s' t (handed_in s' (event_given caller s'.moment 0 event ∷ []))) → IfErr r (IsRefused s t (handed_in s (given_for s caller event)))
 event_refused (Ok done) s s' t caller event e text is = is
-event_refused (Err (refused.JournalFull entries bytes)) s s' t caller event e text is = record { led = event_then s s' caller event e ∙ is.led; text = is.text ∙ text; legal = is.legal }
+event_refused (Err (refused.Full full)) s s' t caller event e text is = record { led = event_then s s' caller event e ∙ is.led; text = is.text ∙ text; legal = is.legal }
 event_refused (Err refused.SegmentFault) s s' t caller event e text is = subst (λ (x : Scene). IsInSegments x.keeping) (sym (keeping_then s (first_load s s.past) s' None e)) is
 event_refused (Err refused.NoMemory) s s' t caller event e text is = tt
 
 -- the first load was refused, and nothing is handed in after it
 pub first_refused : (r : Refused) (s s' : Scene) (caller : ℕ) (event : Event) → IsRefused s s' (handed_in s (first_load s s.past)) r → IsRefused s s' (handed_in s (given_for s caller event)) r
-first_refused (refused.JournalFull entries bytes) s s' caller event is = record {
+first_refused (refused.Full full) s s' caller event is = record {
   led = refused_then s s' (first_load s s.past) (event_given caller s.moment 0 event ∷ []) _ is.led;
   text = is.text;
   legal = is.legal;
@@ -161,6 +164,11 @@ first_refused refused.NoMemory s s' caller event is = tt
 pub full_of : (j : Journal) (entries bytes : ℕ) → IsFullAt j entries bytes → full_at (whole j.limits) (items_of j.history) ≡ Some (record { entries = entries; bytes = bytes })
 full_of j entries bytes full = rw full.full
     (ap (λ n. Some (record { entries = n; bytes = counted_bytes (items_of j.history) })) (sym full.entries_are) ∙ ap (λ n. Some (record { entries = entries; bytes = n })) (sym full.bytes_are))
+
+-- one that halted refuses so
+pub halted_due : (j : Journal) (h : Halt) → IsHalted j h → IsDue (whole j.limits) (items_of j.history) (refused_by h)
+halted_due j (halt.Full full) is = full_of j full.entries full.bytes is
+halted_due j halt.NoMemory is = tt
 
 -- one that is not has room
 pub room_of : (j : Journal) → is_full j.limits (items_of j.history) ≡ false → full_at (whole j.limits) (items_of j.history) ≡ None

@@ -30,6 +30,6 @@ is_first (i ∷ past) = false
 
 -- A journal refuses as full where it is, with how full it is, and for its file only where it is in segments; want of memory is free.
 abbrev pub IsDue : Keeping → List Item → Refused → Type 0
-IsDue keeping past (refused.JournalFull entries bytes) = full_at keeping past ≡ Some (record { entries = entries; bytes = bytes })
+IsDue keeping past (refused.Full full) = full_at keeping past ≡ Some (record { entries = full.entries; bytes = full.bytes })
 IsDue keeping past refused.SegmentFault = IsInSegments keeping
 IsDue keeping past refused.NoMemory = Unit {0}

@@ -27,7 +27,7 @@ pub record IsFilled (old new : Scene) (entries bytes : ℕ) (due : Outcome) : Ty
 
 -- the journal was full, or is in segments and its file failed; want of memory is free
 abbrev pub IsRefused : Scene → Scene → Outcome → Refused → Type 0
-IsRefused old new due (refused.JournalFull entries bytes) = IsFilled old new entries bytes due
+IsRefused old new due (refused.Full full) = IsFilled old new full.entries full.bytes due
 IsRefused old new due refused.SegmentFault = IsInSegments old.keeping
 IsRefused old new due refused.NoMemory = Unit {0}
 
@@ -39,17 +39,17 @@ IsFilledLine old new entries bytes (Err kind) = ⊥
 -- a line stopped the run: by the fault that is due, since the journal was full, or since it is in segments and its file failed; want of memory is free
 abbrev pub IsStop : Scene → Scene → Result Outcome LineKind → LineStop → Type 0
 IsStop old new due (stop.Fault fault) = IsFaultOf fault.kind due
-IsStop old new due (stop.JournalFull entries bytes) = IsFilledLine old new entries bytes due
+IsStop old new due (stop.Full full) = IsFilledLine old new full.entries full.bytes due
 IsStop old new due stop.SegmentFault = IsInSegments old.keeping
 
 -- how this stops the run at a line
 abbrev pub stop_at : ℕ → Refused → LineStop
-stop_at line (refused.JournalFull entries bytes) = stop.JournalFull entries bytes
+stop_at line (refused.Full full) = stop.Full full
 stop_at line refused.SegmentFault = stop.SegmentFault
 stop_at line refused.NoMemory = stop.Fault (record { line = line; kind = LineKind.NoMemory })
 
 -- a fault has the number of the line
 abbrev pub IsAt : ℕ → LineStop → Type 0
 IsAt line (stop.Fault fault) = fault.line ≡ line
-IsAt line (stop.JournalFull entries bytes) = Unit {0}
+IsAt line (stop.Full full) = Unit {0}
 IsAt line stop.SegmentFault = Unit {0}

@@ -10,7 +10,7 @@ ghost use Rattle.scenario_run.specs.Text.{last_outputs, loads_of};
 
 use crate::segmented::SegmentedJournal;
 use crate::whole;
-use authority_core::Authority;
+use authority_core::{Authority, Fullness, Halt};
 use authority_model::{Event, History, Loaded, Output};
 use pk_outside::{Failed, Sink};
 use pk_types::{ByteList, NoMemory};
@@ -20,8 +20,8 @@ use std::marker::Model;
 /// Why nothing was entered.
 #[derive(Clone, Copy, Debug, PartialEq, Eq)]
 pub enum Refused {
-    /// The journal had reached a limit. It has this many entries and counted bytes.
-    JournalFull { entries: u64, bytes: u64 },
+    /// The journal had reached a limit. It is this full.
+    Full(Fullness),
     /// The file of the segments failed, and counted it.
     SegmentFault,
     /// Memory was refused.
@@ -36,6 +36,20 @@ impl From<NoMemory> for Refused {
 
     fn from(_: NoMemory) -> Self {
         Refused::NoMemory
+    }
+}
+
+impl From<Halt> for Refused {
+    ghost use Rattle.std.specs.Prelude.{◌≡◌};
+    ghost use Rattle.scenario_run.specs.Refusals.{refused_by};
+
+    ghost from_gives = { λ halt given. given ≡ refused_by halt };
+
+    fn from(halt: Halt) -> Self {
+        match halt {
+            Halt::Full(full) => Refused::Full(full),
+            Halt::NoMemory => Refused::NoMemory,
+        }
     }
 }
 
@@ -158,7 +172,7 @@ impl<F: Sink> Journal<F> {
     /// Adds the entry of an event, with the salt 0.
     ///
     /// # Errors
-    /// `JournalFull` exactly where the journal takes no further entry; `SegmentFault` only where the file
+    /// `Full` exactly where the journal takes no further entry; `SegmentFault` only where the file
     /// of the segments failed; `NoMemory`. No entry is made then.
     pub fn enter(&mut self, caller: u32, moment: u64, event: Event) -> Result<(), Refused>
         requires event { IsStepped event }

@@ -8,6 +8,7 @@ ghost use Rattle.scenario_text.specs.Runs.{IsRunnable};
 
 use crate::draft::change;
 use crate::journal::{Journal, Refused};
+use authority_core::Fullness;
 use authority_model::{Event, Loaded};
 use pk_outside::Sink;
 use pk_types::TryCopy;
@@ -29,9 +30,8 @@ pub enum LineEffect {
 pub enum LineStop {
     /// The line has this fault, or memory was refused.
     Fault(LineFault),
-    /// A further entry was due, and the journal had reached a limit. It has this many entries and
-    /// counted bytes.
-    JournalFull { entries: u64, bytes: u64 },
+    /// A further entry was due, and the journal had reached a limit. It is this full.
+    Full(Fullness),
     /// The file of the segments failed, and counted it.
     SegmentFault,
 }
@@ -44,7 +44,7 @@ impl Refused {
         ensures stop { result ≡ stop_at line self }
     {
         match self {
-            Refused::JournalFull { entries, bytes } => LineStop::JournalFull { entries, bytes },
+            Refused::Full(full) => LineStop::Full(full),
             Refused::SegmentFault => LineStop::SegmentFault,
             Refused::NoMemory => LineStop::Fault(LineFault {
                 line,
@@ -190,8 +190,8 @@ impl<F: Sink> ScenarioRun<F> {
     /// Does what the line with this number says.
     ///
     /// # Errors
-    /// `Fault` with the first fault of the line, or `NoMemory`; `JournalFull` exactly where the line is
-    /// in the grammar and the journal has reached a limit before an entry that the line makes; `SegmentFault`
+    /// `Fault` with the first fault of the line, or `NoMemory`; `Full` exactly where the line is in the
+    /// grammar and the journal has reached a limit before an entry that the line makes; `SegmentFault`
     /// only where the file of its segments failed.
     pub fn take_line(
         &mut self,

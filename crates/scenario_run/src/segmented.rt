@@ -15,6 +15,7 @@ ghost use Rattle.scenario_run.specs.Refusals.{refused_of, standing_after};
 
 use crate::action_counts::ActionCounts;
 use crate::journal::Refused;
+use authority_core::Fullness;
 use authority_model::{Event, Item, Loaded, Output};
 use journal_segments::{SegmentRefused, Segmented};
 use pk_outside::Sink;
@@ -51,7 +52,7 @@ fn refused_of(refused: SegmentRefused) -> Refused
     ensures refused { result ≡ refused_of refused }
 {
     match refused {
-        SegmentRefused::Full { entries } => Refused::JournalFull { entries, bytes: 0 },
+        SegmentRefused::Full { entries } => Refused::Full(Fullness { entries, bytes: 0 }),
         SegmentRefused::SegmentFault => Refused::SegmentFault,
         SegmentRefused::NoMemory => Refused::NoMemory,
     }

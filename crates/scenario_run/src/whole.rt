@@ -9,7 +9,7 @@ ghost use Rattle.scenario_run.specs.Room.{full_at, whole};
 ghost use Rattle.scenario_run.specs.Text.{last_outputs, loads_of};
 
 use crate::journal::Refused;
-use authority_core::{Authority, LoadStepRefused, StepRefused};
+use authority_core::Authority;
 use authority_model::{Event, Loaded, Output};
 use pk_types::{ByteList, NoMemory};
 use scenario_text::answer_text;
@@ -60,10 +60,11 @@ pub(crate) fn enter(
 {
     match authority.step(caller, moment, 0, event) {
         Ok(_) => Ok(()),
-        Err(StepRefused::JournalFull { entries, bytes, .. }) => {
-            Err(Refused::JournalFull { entries, bytes })
+        Err(refused) => {
+            let (halt, event) = refused.into_parts();
+            drop(event);
+            Err(Refused::from(halt))
         }
-        Err(StepRefused::NoMemory { .. }) => Err(Refused::NoMemory),
     }
 }
 
@@ -83,9 +84,10 @@ pub(crate) fn enter_load(
 {
     match authority.load(0, moment, loaded) {
         Ok(_) => Ok(()),
-        Err(LoadStepRefused::JournalFull { entries, bytes, .. }) => {
-            Err(Refused::JournalFull { entries, bytes })
+        Err(refused) => {
+            let (halt, loaded) = refused.into_parts();
+            drop(loaded);
+            Err(Refused::from(halt))
         }
-        Err(LoadStepRefused::NoMemory { .. }) => Err(Refused::NoMemory),
     }
 }
