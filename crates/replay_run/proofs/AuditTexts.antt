@@ -26,7 +26,7 @@ unwritten begin l0 l ended before held (end.TreeFault count) other r = r
 unwritten begin l0 l ended before held (end.LoadRefused why) other r = r
 unwritten begin l0 l ended before held end.ReadFault other r = r
 unwritten begin l0 l ended before held end.WriteFault other r = absurd r.run
-unwritten begin l0 l ended before held (end.JournalFull entries bytes) other r = r
+unwritten begin l0 l ended before held (end.Full full) other r = r
 unwritten begin l0 l ended before held (end.BadLine line why) other r = r
 unwritten begin l0 l ended before held end.SegmentFault other r = r
 unwritten begin l0 l ended before held end.NoMemory other r = r
@@ -92,7 +92,7 @@ audited_so begin l0 l ended before mid held history past st r run items legal wr
     of (end.TreeFault count) run none w = absurd w
     of (end.LoadRefused why) run none w = absurd w
     of end.ReadFault run none w = absurd w
-    of (end.JournalFull entries bytes) run none w = absurd w
+    of (end.Full full) run none w = absurd w
     of (end.BadLine line why) run none w = absurd w
     of end.SegmentFault run none w = absurd w
 

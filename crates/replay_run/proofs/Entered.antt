@@ -1,6 +1,7 @@
 -- What the newest item adds to the text and to the counts.
 use Rattle.std.proofs.Common.{◌≡◌, ◌++◌, [], ◌∷◌, ◌+◌, ◌==◌, ℕ, List, Bool, true, false, Option, Result, Ok, Err, OnOk, if◌then◌else◌, refl, sym, ◌∙◌, ap, subst, append-nil, inl, inr, arith}
 use Rattle.pk_outside.specs.Streams.{Got, GotFront}
+use Rattle.authority_core.specs.declared.halt.Fullness.{Fullness}
 use Rattle.authority_model.specs.declared.journal.Item.{Item}
 use Rattle.authority_model.specs.declared.message.Output.{Output}
 use Rattle.authority_model.specs.Items.{sent, count_to}
@@ -78,7 +79,7 @@ entry_done tells Counted old new line before held (Ok done) ran e legal written 
   written = written.0;
 }
 entry_done tells Counted old new line before held (Err (stopped.Fault k)) ran e legal written = absurd written
-entry_done tells Counted old new line before held (Err (stopped.JournalFull entries bytes)) ran e legal written = absurd written
+entry_done tells Counted old new line before held (Err (stopped.Full full)) ran e legal written = absurd written
 entry_done tells Counted old new line before held (Err stopped.SegmentFault) ran e legal written = absurd written
 entry_done tells Counted old new line before held (Err stopped.WriteFault) ran e legal written = cut_where tells old new line before held ran e legal written
 entry_done tells Counted old new line before held (Err stopped.NoMemory) ran e legal written = inr (cut_where tells old new line before held ran e legal written)
@@ -117,13 +118,13 @@ fault_done tells old new line held kind.Number fault = (fault, refl)
 fault_done tells old new line held kind.Value fault = (fault, refl)
 
 -- the journal was full at a line
-full_done : (tells : Bool) (old new : Scene) (line : List ℕ) (held : Option (List ℕ)) (entries bytes : ℕ) (due : Result Outcome LineKind) → run_line old line ≡ due → IsFilledLine old new entries bytes due
-    → LineDone tells old line new held held (Err (stopped.JournalFull entries bytes))
-full_done tells old new line held entries bytes (Ok outcome) e filled = (record { ran = e ∙ ap Ok filled.led; legal = filled.legal; text = filled.text }, refl)
-full_done tells old new line held entries bytes (Err k) e filled = absurd filled
+full_done : (tells : Bool) (old new : Scene) (line : List ℕ) (held : Option (List ℕ)) (full : Fullness) (due : Result Outcome LineKind) → run_line old line ≡ due → IsFilledLine old new full.entries full.bytes due
+    → LineDone tells old line new held held (Err (stopped.Full full))
+full_done tells old new line held full (Ok outcome) e filled = (record { ran = e ∙ ap Ok filled.led; legal = filled.legal; text = filled.text }, refl)
+full_done tells old new line held full (Err k) e filled = absurd filled
 
 -- what stopped a line stops the run
 pub stop_done : (tells : Bool) (old new : Scene) (line : List ℕ) (held : Option (List ℕ)) (st : LineStop) → IsStop old new (run_line old line) st → LineDone tells old line new held held (Err (stop_of st))
 stop_done tells old new line held (stop.Fault fault) is = fault_done tells old new line held fault.kind is
 stop_done tells old new line held stop.SegmentFault is = (is, refl)
-stop_done tells old new line held (stop.JournalFull entries bytes) is = full_done tells old new line held entries bytes (run_line old line) refl is
+stop_done tells old new line held (stop.Full full) is = full_done tells old new line held full (run_line old line) refl is

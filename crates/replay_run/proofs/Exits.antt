@@ -188,7 +188,7 @@ stopped_gives (stopped.Fault k) {tells = tells} {begin = begin} {l0 = l0} {l = l
     refl,
   );
 }
-stopped_gives (stopped.JournalFull entries bytes) {tells = tells} {begin = begin} {l0 = l0} {l = l} {before = before} {held = held} {s = s} {n = n} so ended l' held' got line s' g a done = record {
+stopped_gives (stopped.Full full) {tells = tells} {begin = begin} {l0 = l0} {l = l} {before = before} {held = held} {s = s} {n = n} so ended l' held' got line s' g a done = record {
   read = so.read ++ got;
   written = told tells (text_of s.past);
   past = s'.past;
@@ -197,8 +197,8 @@ stopped_gives (stopped.JournalFull entries bytes) {tells = tells} {begin = begin
   legal = done.0.legal;
   licensed = access s'.past done.0.legal;
   run = (
-    whatever_map (Begins begin line n s) (Halts begin s'.past (Halt.Full (record { entries = entries; bytes = bytes }))) ended (so.read ++ got)
-        (λ bytes' b. is_filled begin bytes' line b.0 n s s' (record { entries = entries; bytes = bytes }) b.1 done.0.ran) a,
+    whatever_map (Begins begin line n s) (Halts begin s'.past (Halt.Full (record { entries = full.entries; bytes = full.bytes }))) ended (so.read ++ got)
+        (λ bytes' b. is_filled begin bytes' line b.0 n s s' (record { entries = full.entries; bytes = full.bytes }) b.1 done.0.ran) a,
     ap (told tells) (sym done.0.text),
   );
 }

@@ -47,14 +47,14 @@ fault_writes held faults output other = refl
 -- a line that stopped the run before its answers writes nothing
 pub stop_writes : {S : Type 0} (held : S → Option (List ℕ)) (faults : S → ℕ) (output : S) (st : LineStop) → LineWrites held faults output output (Err (stop_of st))
 stop_writes held faults output (stop.Fault fault) = fault_writes held faults output fault.kind
-stop_writes held faults output (stop.JournalFull entries bytes) = refl
+stop_writes held faults output (stop.Full full) = refl
 stop_writes held faults output stop.SegmentFault = refl
 
 -- a run that a line stopped had no read fault
 pub stopped_reads : {S : Type 0} (left : S → Option (List ℕ)) (faults : S → ℕ) (before now : S) (e : Stopped) (n : ℕ) → faults now ≡ faults before
     → InputFaults left faults before now (end_of e n)
 stopped_reads left faults before now (stopped.Fault kind) n quiet = quiet
-stopped_reads left faults before now (stopped.JournalFull entries bytes) n quiet = quiet
+stopped_reads left faults before now (stopped.Full full) n quiet = quiet
 stopped_reads left faults before now stopped.SegmentFault n quiet = quiet
 stopped_reads left faults before now stopped.WriteFault n quiet = quiet
 stopped_reads left faults before now stopped.NoMemory n quiet = quiet
@@ -63,7 +63,7 @@ stopped_reads left faults before now stopped.NoMemory n quiet = quiet
 pub stopped_writes : {S : Type 0} (held : S → Option (List ℕ)) (faults : S → ℕ) (first before now : S) (e : Stopped) (n : ℕ) → faults before ≡ faults first
     → LineWrites held faults before now (Err e) → OutputFaults held faults first now (end_of e n)
 stopped_writes held faults first before now (stopped.Fault kind) n quiet writes = writes ∙ quiet
-stopped_writes held faults first before now (stopped.JournalFull entries bytes) n quiet writes = writes ∙ quiet
+stopped_writes held faults first before now (stopped.Full full) n quiet writes = writes ∙ quiet
 stopped_writes held faults first before now stopped.SegmentFault n quiet writes = writes ∙ quiet
 stopped_writes held faults first before now stopped.WriteFault n quiet writes = fails_later held faults first before now quiet writes
 stopped_writes held faults first before now stopped.NoMemory n quiet writes = writes ∙ quiet

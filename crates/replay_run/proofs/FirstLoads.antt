@@ -38,6 +38,6 @@ began_first told root before now Untouched Runs (end.LoadRefused why) goes run =
 began_first told root before now Untouched Runs end.SegmentFault goes run = run
 began_first told root before now Untouched Runs end.ReadFault goes run = run
 began_first told root before now Untouched Runs end.WriteFault goes run = run
-began_first told root before now Untouched Runs (end.JournalFull entries bytes) goes run = run
+began_first told root before now Untouched Runs (end.Full full) goes run = run
 began_first told root before now Untouched Runs (end.BadLine line why) goes run = run
 began_first told root before now Untouched Runs end.NoMemory goes run = inr run

@@ -24,7 +24,7 @@ replayed_after : (lead : List ℕ) (begin : Scene) (ended : Bool) (read : List �
     → Played true lead begin ended read past (lead ++ written) st
 replayed_after lead begin ended read past written end.Done run = (run.0, run.1, run.2, ap (λ t. lead ++ t) run.3)
 replayed_after lead begin ended read past written (end.BadLine line why) run = (run.0, ap (λ t. lead ++ t) run.1)
-replayed_after lead begin ended read past written (end.JournalFull entries bytes) run = (run.0, ap (λ t. lead ++ t) run.1)
+replayed_after lead begin ended read past written (end.Full full) run = (run.0, ap (λ t. lead ++ t) run.1)
 replayed_after lead begin ended read past written end.SegmentFault run = (run.0, run.1, ap (λ t. lead ++ t) run.2)
 replayed_after lead begin ended read past written end.ReadFault run = (run.0, ap (λ t. lead ++ t) run.1)
 replayed_after lead begin ended read past written end.WriteFault run = (run.0, front_after lead written (text_of past) run.1)

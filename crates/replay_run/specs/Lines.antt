@@ -45,7 +45,7 @@ pub record IsLineFull (old : Scene) (line : List ℕ) (new : Scene) (entries byt
 abbrev pub LineDone : Bool → Scene → List ℕ → Scene → Option (List ℕ) → Option (List ℕ) → Result (Unit {0}) Stopped → Type 0
 LineDone tells old line new before held (Ok done) = IsLineAnswered tells old line new before held
 LineDone tells old line new before held (Err (stopped.Fault kind)) = (run_line old line ≡ Err kind) × (held ≡ before)
-LineDone tells old line new before held (Err (stopped.JournalFull entries bytes)) = IsLineFull old line new entries bytes × (held ≡ before)
+LineDone tells old line new before held (Err (stopped.Full full)) = IsLineFull old line new full.entries full.bytes × (held ≡ before)
 LineDone tells old line new before held (Err stopped.SegmentFault) = IsInSegments old.keeping × (held ≡ before)
 LineDone tells old line new before held (Err stopped.WriteFault) = OnlyTold tells (IsLineCutOff old line before held)
 LineDone tells old line new before held (Err stopped.NoMemory) = (held ≡ before) ⊎ OnlyTold tells (IsLineCutOff old line before held)
@@ -55,7 +55,7 @@ abbrev pub LastTold : Bool → ((ℕ → ℕ) → Type 0) → List Item → (ℕ
 LastTold tells Counted past counts before held (Ok done) =
     Got before held (told tells (outputs_text (loads_of past) counts (last_outputs past))) × Counted (counts_after counts (last_outputs past))
 LastTold tells Counted past counts before held (Err (stopped.Fault kind)) = ⊥
-LastTold tells Counted past counts before held (Err (stopped.JournalFull entries bytes)) = ⊥
+LastTold tells Counted past counts before held (Err (stopped.Full full)) = ⊥
 LastTold tells Counted past counts before held (Err stopped.SegmentFault) = ⊥
 LastTold tells Counted past counts before held (Err stopped.WriteFault) = OnlyTold tells (GotFront before held (outputs_text (loads_of past) counts (last_outputs past)))
 LastTold tells Counted past counts before held (Err stopped.NoMemory) = OnlyTold tells (GotFront before held (outputs_text (loads_of past) counts (last_outputs past)))
@@ -68,7 +68,7 @@ stop_at fault = stopped.Fault fault
 -- how a line stops the run
 abbrev pub stop_of : LineStop → Stopped
 stop_of (stop.Fault fault) = stop_at fault.kind
-stop_of (stop.JournalFull entries bytes) = stopped.JournalFull entries bytes
+stop_of (stop.Full full) = stopped.Full full
 stop_of stop.SegmentFault = stopped.SegmentFault
 
 -- how a run ends where what is written first is refused
@@ -79,7 +79,7 @@ end_of_write refused.NoMemory = end.NoMemory
 -- how a run ends at a line that stopped it
 abbrev pub end_of : Stopped → ℕ → ReplayEnd
 end_of (stopped.Fault kind) line = end.BadLine line kind
-end_of (stopped.JournalFull entries bytes) line = end.JournalFull entries bytes
+end_of (stopped.Full full) line = end.Full full
 end_of stopped.SegmentFault line = end.SegmentFault
 end_of stopped.WriteFault line = end.WriteFault
 end_of stopped.NoMemory line = end.NoMemory

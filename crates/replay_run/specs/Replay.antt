@@ -92,8 +92,8 @@ abbrev pub Played : Bool → List ℕ → Scene → Bool → List ℕ → List I
 Played tells lead begin ended read past written end.Done =
     IsTrue ended × (halt_of begin read ≡ None) × (replay_history begin read ≡ past) × (written ≡ lead ++ told tells (text_of past))
 Played tells lead begin ended read past written (end.BadLine line kind) = Whatever ended (Halts begin past (Halt.Fault line kind)) read × (written ≡ lead ++ told tells (text_of past))
-Played tells lead begin ended read past written (end.JournalFull entries bytes) =
-    Whatever ended (Halts begin past (Halt.Full (record { entries = entries; bytes = bytes }))) read × (written ≡ lead ++ told tells (text_of past))
+Played tells lead begin ended read past written (end.Full full) =
+    Whatever ended (Halts begin past (Halt.Full (record { entries = full.entries; bytes = full.bytes }))) read × (written ≡ lead ++ told tells (text_of past))
 Played tells lead begin ended read past written end.SegmentFault = IsInSegments begin.keeping × Whatever ended (IsBegun begin past) read × (written ≡ lead ++ told tells (text_of past))
 Played tells lead begin ended read past written end.ReadFault = IsCutOff begin read past × (written ≡ lead ++ told tells (text_of past))
 Played tells lead begin ended read past written end.WriteFault = OnlyTold tells (Whatever ended (IsBegun begin past) read × IsFront written (lead ++ text_of past))

@@ -2,6 +2,7 @@
 ghost use Rattle.std.specs.Prelude.{◌≡◌};
 ghost use Rattle.replay_run.specs.Lines.{end_of, stop_of};
 
+use authority_core::Fullness;
 use policy_load::LoadRefused;
 use scenario_run::LineStop;
 use scenario_text::{LineFault, LineKind};
@@ -19,9 +20,8 @@ pub enum ReplayEnd {
     ReadFault,
     /// The output counted a fault.
     WriteFault,
-    /// A further entry was due, and the journal had reached a limit. It has this many entries and
-    /// counted bytes.
-    JournalFull { entries: u64, bytes: u64 },
+    /// A further entry was due, and the journal had reached a limit. It is this full.
+    Full(Fullness),
     /// The file of the segments counted a fault, of a journal in segments.
     SegmentFault,
     /// A line is not in the grammar of scenarios. Lines are counted from 1.
@@ -35,8 +35,8 @@ pub enum ReplayEnd {
 pub enum Stopped {
     /// The line has this fault.
     Fault(LineKind),
-    /// The journal was full. It has this many entries and counted bytes.
-    JournalFull { entries: u64, bytes: u64 },
+    /// The journal had reached a limit. It is this full.
+    Full(Fullness),
     /// The file of the segments failed, and counted it.
     SegmentFault,
     /// The output failed, and counted it.
@@ -58,7 +58,7 @@ impl Stopped {
                 },
             ) => Stopped::NoMemory,
             LineStop::Fault(LineFault { kind, .. }) => Stopped::Fault(kind),
-            LineStop::JournalFull { entries, bytes } => Stopped::JournalFull { entries, bytes },
+            LineStop::Full(full) => Stopped::Full(full),
             LineStop::SegmentFault => Stopped::SegmentFault,
         }
     }
@@ -69,7 +69,7 @@ impl Stopped {
     {
         match self {
             Stopped::Fault(kind) => ReplayEnd::BadLine { line: number, kind },
-            Stopped::JournalFull { entries, bytes } => ReplayEnd::JournalFull { entries, bytes },
+            Stopped::Full(full) => ReplayEnd::Full(full),
             Stopped::SegmentFault => ReplayEnd::SegmentFault,
             Stopped::WriteFault => ReplayEnd::WriteFault,
             Stopped::NoMemory => ReplayEnd::NoMemory,

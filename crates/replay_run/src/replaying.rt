@@ -55,7 +55,7 @@ fn replay_from<I: Source, O: Sink>(
 /// # Errors
 /// `TreeFault` only where the tree counted a fault, and `LoadRefused` exactly where the first load is
 /// refused by a limit or a table, and then nothing is read or written; `BadLine` only where that line
-/// has that first fault and the lines before it have none; `JournalFull` exactly where a further entry
+/// has that first fault and the lines before it have none; `Full` exactly where a further entry
 /// was due and the journal had reached its limit of entries or of counted bytes; `ReadFault` and
 /// `WriteFault` exactly where the input or the output counted a fault, which its last call did;
 /// `NoMemory`, which may come in place of any other answer.

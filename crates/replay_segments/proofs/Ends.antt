@@ -25,7 +25,7 @@ played_so begin ended read past written (end.TreeFault count) now kept same r = 
 played_so begin ended read past written (end.LoadRefused why) now kept same r = absurd r
 played_so begin ended read past written end.ReadFault now kept same r = subst (Played true [] begin ended read past written) (sym same) r
 played_so begin ended read past written end.WriteFault now kept same r = subst (Played true [] begin ended read past written) (sym same) r
-played_so begin ended read past written (end.JournalFull entries bytes) now kept same r = subst (Played true [] begin ended read past written) (sym same) r
+played_so begin ended read past written (end.Full full) now kept same r = subst (Played true [] begin ended read past written) (sym same) r
 played_so begin ended read past written (end.BadLine line kind) now kept same r = subst (Played true [] begin ended read past written) (sym same) r
 played_so begin ended read past written end.NoMemory now kept same r = subst (Played true [] begin ended read past written) (sym same) r
 
@@ -51,7 +51,7 @@ done_before (end.TreeFault count) now same is = sym same ∙ is
 done_before (end.LoadRefused why) now same is = sym same ∙ is
 done_before end.ReadFault now same is = sym same ∙ is
 done_before end.WriteFault now same is = sym same ∙ is
-done_before (end.JournalFull entries bytes) now same is = sym same ∙ is
+done_before (end.Full full) now same is = sym same ∙ is
 done_before (end.BadLine line kind) now same is = sym same ∙ is
 done_before end.NoMemory now same is = sym same ∙ is
 
@@ -92,6 +92,6 @@ station_so (end.TreeFault count) faults before now some r = rose_later (nat_lt 0
 station_so (end.LoadRefused why) faults before now some r = rose_later (nat_lt 0 faults) before now r
 station_so end.ReadFault faults before now some r = rose_later (nat_lt 0 faults) before now r
 station_so end.WriteFault faults before now some r = rose_later (nat_lt 0 faults) before now r
-station_so (end.JournalFull entries bytes) faults before now some r = rose_later (nat_lt 0 faults) before now r
+station_so (end.Full full) faults before now some r = rose_later (nat_lt 0 faults) before now r
 station_so (end.BadLine line kind) faults before now some r = rose_later (nat_lt 0 faults) before now r
 station_so end.NoMemory faults before now some r = rose_later (nat_lt 0 faults) before now r

@@ -66,7 +66,7 @@ reads_so left faults a b (end.TreeFault count) now same r = subst (InputFaults l
 reads_so left faults a b (end.LoadRefused why) now same r = subst (InputFaults left faults a b) (sym same) r
 reads_so left faults a b end.ReadFault now same r = subst (InputFaults left faults a b) (sym same) r
 reads_so left faults a b end.WriteFault now same r = subst (InputFaults left faults a b) (sym same) r
-reads_so left faults a b (end.JournalFull entries bytes) now same r = subst (InputFaults left faults a b) (sym same) r
+reads_so left faults a b (end.Full full) now same r = subst (InputFaults left faults a b) (sym same) r
 reads_so left faults a b (end.BadLine line kind) now same r = subst (InputFaults left faults a b) (sym same) r
 reads_so left faults a b end.NoMemory now same r = subst (InputFaults left faults a b) (sym same) r
 
@@ -81,7 +81,7 @@ writes_so held faults a b (end.TreeFault count) now same r = subst (OutputFaults
 writes_so held faults a b (end.LoadRefused why) now same r = subst (OutputFaults held faults a b) (sym same) r
 writes_so held faults a b end.ReadFault now same r = subst (OutputFaults held faults a b) (sym same) r
 writes_so held faults a b end.WriteFault now same r = subst (OutputFaults held faults a b) (sym same) r
-writes_so held faults a b (end.JournalFull entries bytes) now same r = subst (OutputFaults held faults a b) (sym same) r
+writes_so held faults a b (end.Full full) now same r = subst (OutputFaults held faults a b) (sym same) r
 writes_so held faults a b (end.BadLine line kind) now same r = subst (OutputFaults held faults a b) (sym same) r
 writes_so held faults a b end.NoMemory now same r = subst (OutputFaults held faults a b) (sym same) r
 

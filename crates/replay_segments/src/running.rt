@@ -168,7 +168,7 @@ fn replay_from<N: Station, I: Source, O: Sink>(
 /// # Errors
 /// Those of `replay`, and `SegmentFault` only where the station counted a fault in this call, when the file
 /// was made or when it was taken back after it failed; the text on the output then ends between two entries.
-/// `JournalFull` has the number of entries, and no counted bytes.
+/// `Full` has the number of entries, and no counted bytes.
 pub fn replay_segments<T: Tree, N: Station, I: Source, O: Sink>(
     alloc: Global,
     root: Option<&Text>,
