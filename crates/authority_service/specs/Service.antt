@@ -194,7 +194,7 @@ Serves plan out end.NoMemory = IsUntouched out ⊎ (IsUnbegun plan out ⊎ WasCu
 Serves plan out end.DoorFault = Rose out.station_faults_before out.station_faults × (IsUnbegun plan out ⊎ Ended plan out (λ first left. WasWhole plan out left))
 Serves plan out end.WriteFault = FailedOnce out × CountedNone out × (IsUnbegun plan out ⊎ Ended plan out (λ first left. WasWhole plan out left × AllServed plan out))
 Serves plan out end.Done = CountedNone out × Ended plan out (λ first left. WasWhole plan out left × AllServed plan out × Wrote out (printed plan first left))
-Serves plan out (end.JournalFull entries bytes) = Ended plan out (λ first left. FitsJournal plan.limits (cause.JournalFull entries bytes) (in_order left.journal))
+Serves plan out (end.Full full) = Ended plan out (λ first left. FitsJournal plan.limits (cause.JournalFull full.entries full.bytes) (in_order left.journal))
 Serves plan out (end.Admissions admitted) = Ended plan out (λ first left. FitsJournal plan.limits (cause.Admissions admitted) (in_order left.journal) × AdmitsAll plan left)
 
 -- # How the end is chosen
@@ -218,7 +218,7 @@ end_of_stops slots written =
 
 -- the end of a service: the kept cause of the lock comes first
 abbrev pub end_of : Option EndCause → List ShutSlot → Bool → ServiceEnd
-end_of (Some (cause.JournalFull entries bytes)) slots written = end.JournalFull entries bytes
+end_of (Some (cause.JournalFull entries bytes)) slots written = end.Full (record { entries = entries; bytes = bytes })
 end_of (Some (cause.Admissions admitted)) slots written = end.Admissions admitted
 end_of (Some cause.NoMemory) slots written = end.NoMemory
 end_of None slots written = end_of_stops slots written

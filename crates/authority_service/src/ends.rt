@@ -1,8 +1,9 @@
 // How a service ends.
+use authority_core::Fullness;
 use policy_load::LoadRefused;
 
 /// How a service ended. Where several of these apply once the slots have ended, the first of
-/// `JournalFull`, `Admissions`, `NoMemory`, `DoorFault`, `WriteFault` and `Done` is answered.
+/// `Full`, `Admissions`, `NoMemory`, `DoorFault`, `WriteFault` and `Done` is answered.
 #[derive(Debug, Drop)]
 pub enum ServiceEnd {
     /// All slots have ended, and all was written.
@@ -13,8 +14,8 @@ pub enum ServiceEnd {
     LoadRefused { refused: LoadRefused },
     /// The output counted a fault.
     WriteFault,
-    /// The lock ended since the journal was full, with so many entries and counted bytes.
-    JournalFull { entries: u64, bytes: u64 },
+    /// The lock ended since the journal was full. It is this full.
+    Full(Fullness),
     /// The lock ended since all passes were made, which are so many.
     Admissions { admitted: u32 },
     /// A door could not be made, or failed.

@@ -18,6 +18,7 @@ use crate::ends::ServiceEnd;
 use crate::lines::{all_lines, scanned_lines, service_text};
 use crate::running::Ran;
 use audit_text::{AuditWriteRefused, write};
+use authority_core::Fullness;
 use authority_model::History;
 use connection_serve::LiveEnd;
 use history_lock::EndCause;
@@ -188,7 +189,7 @@ impl Ran {
     {
         match self.cause {
             Some(EndCause::JournalFull { entries, bytes }) => {
-                ServiceEnd::JournalFull { entries, bytes }
+                ServiceEnd::Full(Fullness { entries, bytes })
             }
             Some(EndCause::Admissions { admitted }) => ServiceEnd::Admissions { admitted },
             Some(EndCause::NoMemory) => ServiceEnd::NoMemory,

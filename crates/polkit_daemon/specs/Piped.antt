@@ -18,7 +18,7 @@ abbrev pub status_of : PipeEnd → Status
 status_of end.Done = status.Done
 status_of end.ReadFault = status.ReadFault
 status_of end.WriteFault = status.WriteFault
-status_of (end.JournalFull entries bytes) = status.JournalFull entries bytes
+status_of (end.Full full) = status.JournalFull full.entries full.bytes
 status_of (end.BadBytes kind at) = status.BadBytes kind at
 status_of (end.Truncated rest) = status.Truncated rest
 status_of end.NoMemory = status.NoMemory
@@ -52,7 +52,7 @@ PipesFrom p before now t (status.LoadRefused refused) = IsUntouched t × IsFirst
 PipesFrom p before now t status.Done = PipesFirst p before now t end.Done
 PipesFrom p before now t status.ReadFault = PipesFirst p before now t end.ReadFault
 PipesFrom p before now t status.WriteFault = PipesFirst p before now t end.WriteFault
-PipesFrom p before now t (status.JournalFull entries bytes) = PipesFirst p before now t (end.JournalFull entries bytes)
+PipesFrom p before now t (status.JournalFull entries bytes) = PipesFirst p before now t (end.Full (record { entries = entries; bytes = bytes }))
 PipesFrom p before now t (status.BadBytes kind at) = PipesFirst p before now t (end.BadBytes kind at)
 PipesFrom p before now t (status.Truncated rest) = PipesFirst p before now t (end.Truncated rest)
 PipesFrom p before now t status.NoMemory = IsUntouched t ⊎ PipesFirst p before now t end.NoMemory

@@ -9,13 +9,14 @@ ghost use Rattle.polkit_daemon.specs.Faults.{OutputFaults};
 ghost use Rattle.polkit_daemon.specs.Generate.{Generates, generated_line};
 
 use crate::status::Status;
-use generated_run::{RunRefused, generate, summary_line};
+use authority_core::Halt;
+use generated_run::{generate, summary_line};
 use pk_outside::{Failed, Sink, write_all};
 use pk_types::ByteList;
 use std::alloc::Global;
 
 /// The line of a generated run of so many checks.
-fn generated_line(alloc: Global, checks: u32) -> Result<ByteList, RunRefused>
+fn generated_line(alloc: Global, checks: u32) -> Result<ByteList, Halt>
     requires checks { checks ≤ 100000 }
     ensures line { IfOk result (λ line. line ≡ generated_line checks) }
     ensures legal { OnOk result (Legal (generated checks)) }
@@ -47,10 +48,8 @@ pub fn load_run<O: Sink>(alloc: Global, checks: u32, output: &mut O) -> Status
 {
     let line = match generated_line(alloc, checks) {
         Ok(line) => line,
-        Err(RunRefused::JournalFull { entries, bytes }) => {
-            return Status::JournalFull { entries, bytes };
-        }
-        Err(RunRefused::NoMemory) => return Status::NoMemory,
+        Err(Halt::Full(full)) => return Status::full(full),
+        Err(Halt::NoMemory) => return Status::NoMemory,
     };
     match write_all(output, line.as_slice()) {
         Ok(()) => return Status::Done,

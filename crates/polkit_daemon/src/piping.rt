@@ -23,7 +23,7 @@ fn status_of(end: PipeEnd) -> Status
         PipeEnd::Done => Status::Done,
         PipeEnd::ReadFault => Status::ReadFault,
         PipeEnd::WriteFault => Status::WriteFault,
-        PipeEnd::JournalFull { entries, bytes } => Status::JournalFull { entries, bytes },
+        PipeEnd::Full(full) => Status::full(full),
         PipeEnd::BadBytes { kind, at } => Status::BadBytes { kind, at },
         PipeEnd::Truncated { rest } => Status::Truncated { rest },
         PipeEnd::NoMemory => Status::NoMemory,

@@ -4,7 +4,9 @@ ghost use Rattle.polkit_daemon.specs.Codes.{code_of};
 ghost use Rattle.polkit_daemon.specs.Replayed.{refused_status};
 ghost use Rattle.polkit_daemon.specs.Replayed as replayed;
 ghost use Rattle.polkit_daemon.specs.Served.{status_of};
+ghost use Rattle.polkit_daemon.specs.declared.status.Status.TheVariants as status;
 
+use authority_core::Fullness;
 use authority_service::ServiceEnd;
 use dbus_values::FaultKind;
 use policy_load::LoadRefused;
@@ -47,6 +49,14 @@ pub enum Status {
 }
 
 impl Status {
+    /// The status of a command whose journal was full.
+    pub(crate) fn full(full: Fullness) -> Status
+        ensures status { result ≡ status.JournalFull full.entries full.bytes }
+    {
+        let Fullness { entries, bytes } = full;
+        Status::JournalFull { entries, bytes }
+    }
+
     /// The status of a command whose first load was refused so.
     pub(crate) fn of_refused(refused: LoadRefused) -> Status
         ensures status { result ≡ refused_status refused }
@@ -68,7 +78,7 @@ impl Status {
             ReplayEnd::LoadRefused { refused } => Status::LoadRefused { refused },
             ReplayEnd::ReadFault => Status::ReadFault,
             ReplayEnd::WriteFault => Status::WriteFault,
-            ReplayEnd::JournalFull { entries, bytes } => Status::JournalFull { entries, bytes },
+            ReplayEnd::Full(full) => Status::full(full),
             ReplayEnd::SegmentFault => Status::SegmentFault,
             ReplayEnd::BadLine { line, kind } => Status::BadLine { line, kind },
             ReplayEnd::NoMemory => Status::NoMemory,
@@ -84,7 +94,7 @@ impl Status {
             ServiceEnd::TreeFault { count } => Status::TreeFault { count },
             ServiceEnd::LoadRefused { refused } => Status::LoadRefused { refused },
             ServiceEnd::WriteFault => Status::WriteFault,
-            ServiceEnd::JournalFull { entries, bytes } => Status::JournalFull { entries, bytes },
+            ServiceEnd::Full(full) => Status::full(full),
             ServiceEnd::Admissions { admitted } => Status::Admissions { admitted },
             ServiceEnd::DoorFault => Status::DoorFault,
             ServiceEnd::NoMemory => Status::NoMemory,

@@ -6,7 +6,7 @@ use crate::drafts::{empty_draft, load_draft, take_line};
 use crate::row::{Row, Wrong};
 use crate::words::words;
 use audit_text::write;
-use authority_core::{Authority, CollectStepRefused, LoadStepRefused, StepRefused, UnlistRefused};
+use authority_core::{Authority, CollectStepRefused, Fullness, Halt, UnlistRefused};
 use authority_model::{Event, Limits, Loaded, MAX_BYTES, MAX_ENTRIES};
 use memory_outside::ByteSink;
 use pk_types::{cut, lines};
@@ -43,10 +43,10 @@ fn journal_text(row: &mut Row, authority: &Authority) -> Option<ByteSink> {
 }
 
 /// Tells that the journal is full, and its entries and counted bytes.
-fn tell_full(row: &mut Row, entries: u64, bytes: u64) {
+fn tell_full(row: &mut Row, full: Fullness) {
     row.word("JournalFull");
-    row.show(&entries);
-    row.show(&bytes);
+    row.show(&full.entries);
+    row.show(&full.bytes);
 }
 
 impl AuthorityRun {
@@ -97,13 +97,13 @@ impl AuthorityRun {
         };
         match self.authority.load(0, self.moment.min(LAST_MOMENT), loaded) {
             Ok(_) => {}
-            Err(LoadStepRefused::NoMemory { loaded }) => {
-                self.tell_refused(row, &before);
-                self.load_again(row, loaded);
-            }
-            Err(LoadStepRefused::JournalFull { entries, bytes, .. }) => tell_full(
-                row, entries, bytes,
-            ),
+            Err(refused) => match refused.into_parts() {
+                (Halt::NoMemory, loaded) => {
+                    self.tell_refused(row, &before);
+                    self.load_again(row, loaded);
+                }
+                (Halt::Full(full), _) => tell_full(row, full),
+            },
         }
     }
 
@@ -130,11 +130,13 @@ impl AuthorityRun {
             .step(caller, self.moment.min(LAST_MOMENT), 0, event)
         {
             Ok(_) => {}
-            Err(StepRefused::NoMemory { event }) => {
-                self.tell_refused(row, &before);
-                self.step_again(row, caller, event);
-            }
-            Err(StepRefused::JournalFull { entries, bytes, .. }) => tell_full(row, entries, bytes),
+            Err(refused) => match refused.into_parts() {
+                (Halt::NoMemory, event) => {
+                    self.tell_refused(row, &before);
+                    self.step_again(row, caller, event);
+                }
+                (Halt::Full(full), _) => tell_full(row, full),
+            },
         }
     }
 

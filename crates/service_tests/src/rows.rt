@@ -377,7 +377,7 @@ const FAILING: &[Row] = &[
             fault: Fault::None,
         },
         outcomes: &[Outcome {
-            end: "JournalFull { entries: 1, ",
+            end: "Full(Fullness { entries: 1, ",
             lines: &[
                 ("connection 3 1000 ended 0 0", ""),
                 ("entries 1 loads 1 refused 0", ""),
