@@ -46,10 +46,12 @@ fn input_of(alloc: Global, messages: &[u8]) -> Result<ByteSource, NoMemory> {
     Ok(ByteSource::new(bytes, ROOM, Vec::new(alloc)))
 }
 
-/// What a connection of this user is sent for these messages, where there is no other one.
-fn sent_alone<R: Threads + Wait + Sync>(
+/// What a connection of this user is sent for these messages, where there is no other one, with a clock
+/// of this station.
+pub fn sent_alone<R: Threads + Wait + Sync>(
     rt: &R,
     alloc: Global,
+    station: &mut ListStation,
     uid: &str,
     messages: &[u8],
 ) -> Result<Vec<u8>, NoMemory> {
@@ -57,13 +59,12 @@ fn sent_alone<R: Threads + Wait + Sync>(
     let mut input = input_of(alloc, messages)?;
     let mut output = output(alloc)?;
     let mut tree = tree(alloc, Vec::new(alloc))?;
-    let mut station = ListStation::empty(alloc);
     polkitd(
         rt,
         alloc,
         words.as_slice(),
         &mut tree,
-        &mut station,
+        station,
         &mut input,
         &mut output,
     );
@@ -79,7 +80,8 @@ fn is_alike<R: Threads + Wait + Sync>(
     uid: &str,
     messages: &[u8],
 ) -> Result<bool, NoMemory> {
-    let alone = sent_alone(rt, alloc, uid, messages)?;
+    let mut station = ListStation::empty(alloc);
+    let alone = sent_alone(rt, alloc, &mut station, uid, messages)?;
     Ok(OK.len() < alone.len() && served.sent(place, 0) == alone.as_slice())
 }
 

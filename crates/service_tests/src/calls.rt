@@ -1,5 +1,5 @@
-// Services of which one call after another fails.
-use crate::memory::{Fault, LinkRow, ROOM, Scene, play};
+// Services of which one call after another fails, and two.
+use crate::memory::{Fault, LinkRow, ROOM, Scene, Served, play};
 use crate::written::is_told;
 use pk_types::NoMemory;
 use std::alloc::Global;
@@ -121,39 +121,101 @@ fn second_load_fails_at_each_call(rt: HostRuntime) -> Result<(), Fail> {
     Ok(())
 }
 
-/// Plays the checks with this fault, and answers whether they have this end, or are done.
-fn ends_so<R: Threads + Wait + Sync>(
+/// How the checks end with this fault.
+fn end_with<R: Threads + Wait + Sync>(
     rt: &R,
     alloc: Global,
     fault: Fault,
-    end: &str,
-) -> Result<bool, NoMemory> {
+) -> Result<String, NoMemory> {
     let scene = Scene { fault, ..CHECKS };
-    let served = play(rt, alloc, &scene)?;
-    Ok(served.end.as_str() == end || served.end.as_str() == "Done")
+    let Served {
+        end,
+        output: _,
+        station: _,
+    } = play(rt, alloc, &scene)?;
+    Ok(end)
 }
 
-/// The faults at this call of each kind, how many calls of the kind may be made, and how such a service
-/// may end beside `Done`.
-fn kinds(call: u64) -> [(Fault, u64, &'static str); 6] {
+/// How a service ends of which a call fails, where so many calls of its kind are made.
+fn end_at(call: u64, made: u64, end: &'static str) -> &'static str {
+    if call <= made { end } else { "Done" }
+}
+
+/// A fault, and how the checks end with it alone.
+type Ending = (Fault, &'static str);
+
+/// The faults at this call of each kind. A load lists four directories, and reads the policy file and
+/// four tables.
+fn kinds(call: u64) -> [Ending; 6] {
     [
-        (Fault::Read(call), 10, "Done"),
-        (Fault::Write(call), 5, "Done"),
-        (Fault::Accept(call), 2, "DoorFault"),
-        (Fault::Door(call), 3, "DoorFault"),
-        (Fault::Tree(call), 12, "TreeFault { count: 1 }"),
-        (Fault::Output(call), 2, "WriteFault"),
+        (Fault::Read(call), "Done"),
+        (Fault::Write(call), "Done"),
+        (Fault::Accept(call), end_at(call, 1, "DoorFault")),
+        (Fault::Door(call), end_at(call, 2, "DoorFault")),
+        (Fault::Tree(call), end_at(call, 9, "TreeFault { count: 1 }")),
+        (Fault::Output(call), end_at(call, 1, "WriteFault")),
     ]
 }
 
 #[test]
 fn each_failing_call_has_its_end(rt: HostRuntime) -> Result<(), Fail> {
     for call in 1..13u64 {
-        for (fault, most, end) in kinds(call) {
-            if call <= most {
-                let ends = ends_so(&rt, rt.alloc(), fault, end)?;
-                assert!(rt; ends, "{end} at call {call}");
-            }
+        for (fault, end) in kinds(call) {
+            let came = end_with(&rt, rt.alloc(), fault)?;
+            assert_eq!(rt; came.as_str(), end, "at call {call}");
+        }
+    }
+    Ok(())
+}
+
+/// Two faults of different kinds, at these calls.
+fn pairs(first: u64, second: u64) -> [[Ending; 2]; 6] {
+    let [read, write, accept, door, tree, _] = kinds(first);
+    let [_, _, other_accept, other_door, _, output] = kinds(second);
+    [
+        [read, other_accept],
+        [write, output],
+        [accept, output],
+        [door, output],
+        [tree, output],
+        [tree, other_door],
+    ]
+}
+
+/// Whether the checks end with both faults as with one of them alone, and are done where both calls are
+/// never made or do no harm.
+fn ends_as_one<R: Threads + Wait + Sync>(
+    rt: &R,
+    alloc: Global,
+    pair: &[Ending; 2],
+) -> Result<bool, NoMemory> {
+    let [(one, by_one), (other, by_other)] = *pair;
+    let end = end_with(rt, alloc, one.beside(other))?;
+    let end = end.as_str();
+    Ok((end == by_one || end == by_other) && (end != "Done" || by_one == by_other))
+}
+
+/// The first of these pairs with which they do not, by its place.
+fn odd_pair<R: Threads + Wait + Sync>(
+    rt: &R,
+    alloc: Global,
+    first: u64,
+    second: u64,
+) -> Result<Option<usize>, NoMemory> {
+    for (place, pair) in pairs(first, second).iter().enumerate() {
+        if !ends_as_one(rt, alloc, pair)? {
+            return Ok(Some(place));
+        }
+    }
+    Ok(None)
+}
+
+#[test]
+fn two_failing_calls_end_as_one_of_them(rt: HostRuntime) -> Result<(), Fail> {
+    for first in 1..5u64 {
+        for second in 1..4u64 {
+            let odd = odd_pair(&rt, rt.alloc(), first, second)?;
+            assert_eq!(rt; odd, None, "at calls {first} and {second}");
         }
     }
     Ok(())

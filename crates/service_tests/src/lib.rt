@@ -6,11 +6,15 @@ mod alike;
 #[cfg(test)]
 mod calls;
 #[cfg(test)]
+mod clocks;
+#[cfg(test)]
 mod crossing;
 #[cfg(test)]
 mod cues;
 #[cfg(test)]
 mod listening;
+#[cfg(test)]
+mod looks;
 #[cfg(test)]
 mod memory;
 #[cfg(test)]

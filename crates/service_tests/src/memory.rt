@@ -4,7 +4,9 @@ ghost use Rattle.connection_serve.specs.Promises.{MayServe};
 
 use crate::written::joined;
 use authority_service::{ServiceEnd, serve};
-use memory_outside::{ByteLink, ByteSink, ByteSource, DoorPlan, ListStation, StationPlan};
+use memory_outside::{
+    ByteLink, ByteSink, ByteSource, DoorPlan, ListStation, Readings, StationPlan,
+};
 use pk_outside::{Sighted, Sink, Station};
 use pk_types::{List, NoMemory, Text};
 use serve_words::read_plan;
@@ -40,17 +42,22 @@ pub enum Fault {
     Output(u64),
     /// The making of a door.
     Door(u64),
+    /// A look of each slot.
+    Sight(u64),
+    /// Each of these calls.
+    Each(Calls),
 }
 
 /// The numbers of the calls that fail. None has the number 0.
 #[derive(Clone, Copy)]
-struct Calls {
+pub struct Calls {
     accept: u64,
     read: u64,
     write: u64,
     tree: u64,
     output: u64,
     door: u64,
+    sight: u64,
 }
 
 /// No call fails.
@@ -61,6 +68,7 @@ const NONE: Calls = Calls {
     tree: 0,
     output: 0,
     door: 0,
+    sight: 0,
 };
 
 impl Fault {
@@ -73,11 +81,29 @@ impl Fault {
             Fault::Tree(tree) => Calls { tree, ..NONE },
             Fault::Output(output) => Calls { output, ..NONE },
             Fault::Door(door) => Calls { door, ..NONE },
+            Fault::Sight(sight) => Calls { sight, ..NONE },
+            Fault::Each(calls) => calls,
         }
+    }
+
+    /// This call and one of another object.
+    pub fn beside(self, other: Fault) -> Fault {
+        let one = self.calls();
+        let other = other.calls();
+        Fault::Each(Calls {
+            accept: one.accept.max(other.accept),
+            read: one.read.max(other.read),
+            write: one.write.max(other.write),
+            tree: one.tree.max(other.tree),
+            output: one.output.max(other.output),
+            door: one.door.max(other.door),
+            sight: one.sight.max(other.sight),
+        })
     }
 }
 
-/// What a service is given: its words, the links of its doors, what the looks of its slots see, and the call that fails.
+/// What a service is given: its words, the links of its doors, what the looks of its slots see, and the
+/// call that fails.
 #[derive(Clone, Copy)]
 pub struct Scene {
     pub words: &'static [&'static str],
@@ -117,19 +143,38 @@ fn door(alloc: Global, rows: &[LinkRow], calls: Calls) -> Result<DoorPlan, NoMem
     Ok(plan)
 }
 
+/// What the looks of a slot see, of which this one fails.
+fn looks(alloc: Global, row: &[Sighted], failing: u64) -> Result<List<Sighted>, NoMemory> {
+    let mut looks = List::new(alloc);
+    for (place, sighted) in row.iter().enumerate() {
+        let is_failing = (place as u64).saturating_add(1) == failing;
+        looks.try_push(if is_failing {
+            Sighted::Failed
+        } else {
+            *sighted
+        })?;
+    }
+    Ok(looks)
+}
+
 /// What the looks of each slot see.
-fn sights(alloc: Global, rows: &[&'static [Sighted]]) -> Result<List<List<Sighted>>, NoMemory> {
+fn sights(
+    alloc: Global,
+    rows: &[&'static [Sighted]],
+    failing: u64,
+) -> Result<List<List<Sighted>>, NoMemory> {
     let mut lists = List::new(alloc);
     for row in rows {
-        lists.try_push(List::from_vec(row.to_vec(alloc)?))?;
+        lists.try_push(looks(alloc, row, failing)?)?;
     }
     Ok(lists)
 }
 
-/// The station of a scene.
-fn station(alloc: Global, scene: &Scene) -> Result<ListStation, NoMemory> {
+/// The station of a scene, whose slots have these clocks.
+fn station(alloc: Global, scene: &Scene, clocks: List<Readings>) -> Result<ListStation, NoMemory> {
     let mut calls = scene.fault.calls();
     let failing_doors = vec![in alloc; calls.door]?;
+    let sights = sights(alloc, scene.sights, calls.sight)?;
     let mut doors = List::new(alloc);
     for rows in scene.doors {
         doors.try_push(door(alloc, rows, calls)?)?;
@@ -137,7 +182,8 @@ fn station(alloc: Global, scene: &Scene) -> Result<ListStation, NoMemory> {
     }
     let mut plan = StationPlan::empty(alloc);
     plan.doors = doors;
-    plan.sights = sights(alloc, scene.sights)?;
+    plan.clocks = clocks;
+    plan.sights = sights;
     plan.failing_doors = failing_doors;
     Ok(ListStation::new(alloc, plan))
 }
@@ -181,10 +227,20 @@ pub fn play<R: Threads + Wait + Sync>(
     alloc: Global,
     scene: &Scene,
 ) -> Result<Served, NoMemory> {
+    play_by(rt, alloc, scene, List::new(alloc))
+}
+
+/// Plays a scene whose slots have these clocks.
+pub fn play_by<R: Threads + Wait + Sync>(
+    rt: &R,
+    alloc: Global,
+    scene: &Scene,
+    clocks: List<Readings>,
+) -> Result<Served, NoMemory> {
     let calls = scene.fault.calls();
     let words = texts(alloc, scene.words)?;
     let mut output = failing_output(alloc, calls.output)?;
-    let mut station = station(alloc, scene)?;
+    let mut station = station(alloc, scene, clocks)?;
     let end = serve_named(
         rt,
         alloc,

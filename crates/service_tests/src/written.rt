@@ -16,6 +16,18 @@ pub fn is_told(written: &[u8], wanted: &[(&str, &str)]) -> bool {
     lines.next() == Some(b"".as_slice()) && lines.next().is_none()
 }
 
+/// The lines that begin so.
+pub fn lines_with(alloc: Global, written: &[u8], begins: &[u8]) -> Result<Vec<u8>, NoMemory> {
+    let mut lines = Vec::new(alloc);
+    for line in written.split(|byte| *byte == b'\n') {
+        if line.starts_with(begins) {
+            lines.extend_from_slice(line)?;
+            lines.push(b'\n')?;
+        }
+    }
+    Ok(lines)
+}
+
 /// Parts behind one another.
 pub fn joined(alloc: Global, parts: &[&[u8]]) -> Result<Vec<u8>, NoMemory> {
     let mut bytes = Vec::new(alloc);

@@ -1,4 +1,4 @@
-// A source that fails at each of its calls in turn, and a sink.
+// A source that fails at each of its calls in turn, and a sink, alone and both.
 use crate::runs::{IoPlan, NO_FAULTS, Wanted, difference, run};
 use pk_types::NoMemory;
 use std::alloc::Global;
@@ -118,6 +118,58 @@ fn is_cut_at<R: Threads + Wait + Sync>(
 fn a_sink_that_fails_has_a_prefix_of_the_line(rt: HostRuntime) -> Result<(), Fail> {
     for fault in 1..6u64 {
         assert!(rt; is_cut_at(&rt, rt.alloc(), fault)?, "call {fault}");
+    }
+    Ok(())
+}
+
+/// Whether a replay whose read and whose write fail at these calls ends as one where one of the two fails
+/// alone.
+fn ends_as_one<R: Threads + Wait + Sync>(
+    rt: &R,
+    alloc: Global,
+    read_fault: u64,
+    write_fault: u64,
+) -> Result<bool, NoMemory> {
+    let both = IoPlan {
+        read_piece: 16,
+        read_fault,
+        write_piece: 9,
+        write_fault,
+    };
+    let by_read = IoPlan {
+        write_fault: 0,
+        ..both
+    };
+    let by_write = IoPlan {
+        read_fault: 0,
+        ..both
+    };
+    let scenario = SCENARIO.as_bytes();
+    let ended = run(rt, alloc, &["replay"], scenario, both)?;
+    let one = run(rt, alloc, &["replay"], scenario, by_read)?;
+    let other = run(rt, alloc, &["replay"], scenario, by_write)?;
+    Ok(ended.is_alike(&one) || ended.is_alike(&other))
+}
+
+/// The first write at which that is not so beside a read that fails at this call.
+fn odd_write<R: Threads + Wait + Sync>(
+    rt: &R,
+    alloc: Global,
+    read_fault: u64,
+) -> Result<Option<u64>, NoMemory> {
+    for write_fault in 1..12u64 {
+        if !ends_as_one(rt, alloc, read_fault, write_fault)? {
+            return Ok(Some(write_fault));
+        }
+    }
+    Ok(None)
+}
+
+#[test]
+fn two_faults_end_as_one_of_them(rt: HostRuntime) -> Result<(), Fail> {
+    for read_fault in 1..12u64 {
+        let odd = odd_write(&rt, rt.alloc(), read_fault)?;
+        assert_eq!(rt; odd, None, "read {read_fault}");
     }
     Ok(())
 }

@@ -12,6 +12,8 @@ mod pipes;
 #[cfg(test)]
 mod runs;
 #[cfg(test)]
+mod segments;
+#[cfg(test)]
 mod statuses;
 #[cfg(test)]
 mod trees;

@@ -76,7 +76,7 @@ fn directory(alloc: Global) -> Result<TreeDirectory, NoMemory> {
 }
 
 /// The tree of these files, whose calls with these numbers fail.
-fn tree(alloc: Global, rows: &[(&str, &str)], failing: Vec<u64>) -> Result<ListTree, NoMemory> {
+pub fn tree(alloc: Global, rows: &[(&str, &str)], failing: Vec<u64>) -> Result<ListTree, NoMemory> {
     let files = files(alloc, rows)?;
     let directories = one(alloc, directory(alloc)?)?;
     Ok(ListTree::new(alloc, files, directories, failing))

@@ -1,5 +1,5 @@
 // Runs of the daemon over objects in memory, and in what they differ from what is wanted of them.
-use memory_outside::{ByteSink, ByteSource, EmptyStation, ListTree};
+use memory_outside::{ByteSink, ByteSource, EmptyStation, ListStation, ListTree};
 use pk_outside::TreeFile;
 use pk_types::{ByteList, List, NoMemory, TextList};
 use polkit_daemon::{Status, polkitd};
@@ -56,6 +56,16 @@ impl Ended {
         } else {
             ""
         }
+    }
+
+    /// Whether it ended as the other.
+    pub fn is_alike(&self, other: &Ended) -> bool {
+        let wanted = Wanted {
+            status: other.status.as_str(),
+            code: other.code,
+            written: other.written.as_slice(),
+        };
+        self.difference(wanted).is_empty()
     }
 
     /// Whether the output failed once a part of these bytes was written, and not all.
@@ -160,6 +170,31 @@ pub fn run_over<R: Threads + Wait + Sync>(
         words.as_slice(),
         tree,
         &mut EmptyStation::new(),
+        &mut source,
+        &mut sink,
+    );
+    end_of(alloc, &status, &sink)
+}
+
+/// The same at a station.
+pub fn run_at<R: Threads + Wait + Sync>(
+    rt: &R,
+    alloc: Global,
+    tree: &mut ListTree,
+    station: &mut ListStation,
+    words: &[&str],
+    input: &[u8],
+    plan: IoPlan,
+) -> Result<Ended, NoMemory> {
+    let words = words_of(alloc, words)?;
+    let mut source = source(alloc, input, plan)?;
+    let mut sink = sink(alloc, plan)?;
+    let status = polkitd(
+        rt,
+        alloc,
+        words.as_slice(),
+        tree,
+        station,
         &mut source,
         &mut sink,
     );
