@@ -9,7 +9,7 @@ use history_lock::{Opened, Pass, TableName, open_table};
 use memory_outside::EmptyStation;
 use pk_outside::Station;
 use pk_types::Text;
-use service_slots::{ShutSlot, Slot, SlotStop, open_slot, serve_slots, shut_slot};
+use service_slots::{Place, ShutSlot, Slot, SlotStop, open_slot, serve_slots, shut_slot};
 use shared_authority::{Kept, LimitsName, Shared};
 use std::alloc::Global;
 use std::marker::Brand;
@@ -61,49 +61,39 @@ fn serve_two<L: LimitsName + Send + Sync, T: TableName + Send + Sync, R: Threads
     let path = Text::try_from_bytes(alloc, b"/u").ok()?;
     let mut station = EmptyStation::new();
     let mut slots = Vec::new(alloc);
-    push_slot(
-        rt,
-        alloc,
-        shared,
-        control,
-        &mut station,
-        &path,
-        0,
-        false,
-        &mut slots,
-    )?;
-    push_slot(
-        rt,
-        alloc,
-        shared,
-        control,
-        &mut station,
-        &path,
-        1,
-        true,
-        &mut slots,
-    )?;
+    let first = place(&path, 0, false);
+    push_slot(rt, alloc, shared, control, &mut station, first, &mut slots)?;
+    let second = place(&path, 1, true);
+    push_slot(rt, alloc, shared, control, &mut station, second, &mut slots)?;
     serve_slots(rt, alloc, shared, None, slots.as_mut_slice());
     Some(count_closed(shared, control, &mut station, slots))
 }
 
-/// Opens a slot of user 1000 behind others. None where a pass, a door or memory is refused.
+/// A place of user 1000.
+fn place(path: &Text, number: u32, live: bool) -> Place<'_> {
+    Place {
+        uid: 1000,
+        path,
+        number,
+        live,
+    }
+}
+
+/// Opens a slot behind others. None where a pass, a door or memory is refused.
 fn push_slot<L: LimitsName, T: TableName, N: Station, R: Wait>(
     rt: &R,
     alloc: Global,
     shared: &Shared<L, T>,
     control: &mut Pass<Kept<L>, T>,
     station: &mut N,
-    path: &Text,
-    number: u32,
-    live: bool,
+    place: Place<'_>,
     slots: &mut Vec<Slot<L, T, N::Door, N::Clock, N::Salt, N::Sights>>,
 ) -> Option<()>
     requires none { All (λ s. NoneEnded s.lines.items) slots.old.items }
     ensures none { All (λ s. NoneEnded s.lines.items) slots.new.items }
 {
     let pass = new_pass(rt, shared, control)?;
-    let slot = open_slot(alloc, station, 1000, path, number, live, pass).ok()?;
+    let slot = open_slot(alloc, station, place, pass).ok()?;
     slots.push(slot).ok()
 }
 
