@@ -1,5 +1,5 @@
 -- How the scalars of bytes follow from their first bytes.
-use Rattle.std.proofs.Common.{◌≡◌, ◌≢◌, ℕ, zero, suc, List, [], ◌∷◌, refl, ap, sym, ◌∙◌, arith, length, Option, None, Some, Bor, IfNone, IfSome}
+use Rattle.std.proofs.Common.{◌≡◌, ◌≢◌, ◌<◌, ℕ, zero, suc, List, [], ◌∷◌, refl, ap, sym, ◌∙◌, arith, length, Option, None, Some, Bor, IfNone, IfSome}
 use Rattle.std.specs.Str.{chars, chars_after, continuation_len, lead_bits}
 use Rattle.std.proofs.lemmas.Bool.Decides.{nat_tests}
 
@@ -13,6 +13,16 @@ pub chars_after-zero : (c : ℕ) (rest : List ℕ) → chars_after 0 c rest ≡ 
 unfolding chars
 chars_after-zero c [] = refl
 chars_after-zero c (b ∷ rest) = refl
+
+continuation_len-plain : (b : ℕ) → b < 128 → 0 ≡ continuation_len b
+continuation_len-plain b below = grind (arith, nat_tests)
+
+lead_bits-plain : (b : ℕ) → b < 128 → b ≡ lead_bits b
+lead_bits-plain b below = grind (arith, nat_tests)
+
+-- a byte below 128 is a scalar by itself
+pub chars-plain : (bytes rest : List ℕ) (b : ℕ) → bytes ≡ b ∷ rest → b < 128 → chars bytes ≡ b ∷ chars rest
+chars-plain bytes rest b e below = chars-cons bytes rest b 0 0 b e (continuation_len-plain b below) (lead_bits-plain b below) refl ∙ chars_after-zero b rest
 
 pub chars_after-nil : (n c : ℕ) (rest : List ℕ) → n ≢ 0 → rest ≡ [] → chars_after n c rest ≡ []
 chars_after-nil zero c rest some e = absurd (some refl)

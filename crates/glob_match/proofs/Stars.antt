@@ -68,6 +68,24 @@ some_suffix-now : (test : List ℕ → Bool) (s : List ℕ) → test s ≡ true 
 some_suffix-now test [] e = e
 some_suffix-now test (c ∷ s) e = ap (λ b. b || some_suffix test s) e
 
+-- nothing fits the end of each text
+pub nothing_fits : (text : List ℕ) → some_suffix (glob []) text ≡ true
+nothing_fits [] = refl
+nothing_fits (c ∷ text) = nothing_fits text
+
+-- a pattern fits no text that begins with another scalar than its own
+begins_otherwise : (q c : ℕ) (p s : List ℕ) → q ≢ 42 → q ≢ 63 → q ≢ c → glob (q ∷ p) (c ∷ s) ≡ false
+begins_otherwise q c p s star any other =
+    ap (λ b. if b then some_suffix (glob p) (c ∷ s) else (((q == 63) || (q == c)) && glob p s)) (ne_eqb q 42 star)
+    ∙ ap (λ b. (b || (q == c)) && glob p s) (ne_eqb q 63 any)
+    ∙ ap (λ b. b && glob p s) (ne_eqb q c other)
+
+-- so the suffixes behind it decide
+pub skipped : (q c : ℕ) (p text from rest : List ℕ) → some_suffix (glob (q ∷ p)) text ≡ some_suffix (glob (q ∷ p)) from → from ≡ c ∷ rest → q ≢ 42 → q ≢ 63 → q ≢ c
+    → some_suffix (glob (q ∷ p)) text ≡ some_suffix (glob (q ∷ p)) rest
+skipped q c p text from rest same is star any other =
+    same ∙ ap (some_suffix (glob (q ∷ p))) is ∙ ap (λ b. b || some_suffix (glob (q ∷ p)) rest) (begins_otherwise q c p rest star any other)
+
 -- where the pattern first fits up to its star, the star decides for all suffixes
 pub first_star : (pattern text behind rest : List ℕ) → Fitted pattern text (42 ∷ behind) rest → some_suffix (glob pattern) text ≡ some_suffix (glob behind) rest
 first_star pattern text behind rest fitted =
